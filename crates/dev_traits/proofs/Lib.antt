@@ -1,0 +1,3 @@
+pub mod RecordLemmas
+pub mod Stops
+pub mod Images

@@ -1,0 +1,13 @@
+pub mod Counts
+pub mod Commits
+pub mod Disk
+pub mod CommitLaws
+pub mod Since
+pub mod Outside
+pub mod Lost
+pub mod Record
+pub mod RecordLaws
+pub mod MemDisk
+pub mod MemSink
+pub mod MemFiles
+pub mod Untold
