@@ -1,0 +1,36 @@
+//! The private memory of a process.
+
+ghost use Rattle.std.specs.Prelude.{◌≡◌, ℕ, ◌*◌, ◌^◌, ◌<◌, IfOk, OnErr, IfSome, MatchBool, IsTrue};
+ghost use Rattle.std.specs.Option.{option_map};
+ghost use Rattle.rv64_isa.specs.Memory.{Cells, fetched, readable, can_write, stored};
+ghost use Rattle.rv64_isa.specs.Numbers.{bytes_of, number_of};
+ghost use Rattle.rv64_isa.specs.Instruction.{IsSize};
+
+use lists::NoMemory;
+
+/// Memory of one process, of which nobody else has a byte. It answers for private bytes with the right alone. Addresses
+/// are modulo 2^64, and n is the number of bytes, low first.
+pub trait Space {
+    /// The cells of private mappings.
+    ghost cells: { Self → Cells };
+
+    /// The word at pc; none where one of its four bytes isn't private or lacks EXEC.
+    fn fetch(&self, pc: u64) -> Option<u32>
+        ensures { result ≡ fetched (cells self.now) pc };
+
+    /// The number in n bytes; none where one of them isn't private or lacks READ.
+    fn load(&self, address: u64, n: u8) -> Option<u64>
+        requires { IsSize n }
+        ensures value { result ≡ option_map number_of (readable (cells self.now) address n) }
+        ensures range { IfSome result (λ v. v < 2 ^ (8 * n)) };
+
+    /// Stores the low n bytes of a value; false, and nothing is stored, where one of them isn't private or lacks WRITE.
+    fn store(&mut self, address: u64, n: u8, value: u64) -> Result<bool, NoMemory>
+        requires { IsSize n }
+        ensures able { IfOk result (λ able. able ≡ can_write (cells self.old) address n) }
+        ensures ok { IfOk result (λ able. MatchBool able
+            (cells self.new ≡ stored (cells self.old) address (bytes_of n value))
+            (cells self.new ≡ cells self.old)) }
+        ensures able_first { OnErr result (IsTrue (can_write (cells self.old) address n)) }
+        ensures err { OnErr result (cells self.new ≡ cells self.old) };
+}

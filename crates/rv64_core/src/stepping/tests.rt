@@ -1,0 +1,151 @@
+ghost use Rattle.rv64_core.specs.Flat.{flat_cells};
+
+use super::*;
+use crate::flat::Flat;
+use std::alloc::{AllocError, Global};
+use std::test::Fail;
+
+/// Three pages with these rights, and these words from address 0 on.
+fn memory(alloc: Global, rights: [u8; 3], words: &[u32]) -> Result<Flat, AllocError> {
+    let mut bytes = Vec::new(alloc);
+    for word in words {
+        for byte in word.to_le_bytes() {
+            bytes.push(byte)?;
+        }
+    }
+    bytes.resize(3 * 4096, 0)?;
+    Ok(Flat {
+        rights: Vec::from_array(alloc, rights)?,
+        bytes,
+    })
+}
+
+/// The number of steps, at most 100, until one isn't local.
+fn run<S: Space>(regs: &mut Regs, space: &mut S) -> u32 {
+    for steps in 0..100 {
+        if local_step(regs, space) != Local::Stepped {
+            return steps;
+        }
+    }
+    100
+}
+
+const PROGRAM: [u32; 20] = [
+    0x0050_0093, //  0: addi x1, x0, 5
+    0x0000_0113, //  4: addi x2, x0, 0
+    0x0011_0133, //  8: add x2, x2, x1
+    0xfff0_8093, // 12: addi x1, x1, -1
+    0xfe00_9ce3, // 16: bne x1, x0, -8
+    0x0000_11b7, // 20: lui x3, 1
+    0xf801_0113, // 24: addi x2, x2, -128
+    0xfe21_be23, // 28: sd x2, -4(x3), over two pages
+    0xffc1_8203, // 32: lb x4, -4(x3)
+    0xffe1_e283, // 36: lwu x5, -2(x3), over two pages
+    0x0080_036f, // 40: jal x6, 8
+    0x0000_0073, // 44: ecall, jumped over
+    0x0070_0013, // 48: addi x0, x0, 7
+    0x0390_03e7, // 52: jalr x7, 57(x0), to 56
+    0x0130_0413, // 56: addi x8, x0, 19
+    0x0070_04b7, // 60: lui x9, 0x700
+    0x5134_8493, // 64: addi x9, x9, 0x513
+    0x0490_2423, // 68: sw x9, 72(x0)
+    0x0000_0073, // 72: ecall, by then addi x10, x0, 7
+    0x0010_0073, // 76: ebreak
+];
+
+#[test]
+fn a_program_runs_to_its_first_step_that_is_not_local(rt: HostRuntime) -> Result<(), Fail> {
+    let mut space = memory(rt.alloc(), [7, 3, 0], &PROGRAM)?;
+    let mut regs = Regs { pc: 0, x: [0; 31] };
+    assert_eq!(rt; run(&mut regs, &mut space), 30);
+    let mut wanted = Regs { pc: 76, x: [0; 31] };
+    wanted.put(2, 0xffff_ffff_ffff_ff8f);
+    wanted.put(3, 4096);
+    wanted.put(4, 0xffff_ffff_ffff_ff8f);
+    wanted.put(5, 0xffff_ffff);
+    wanted.put(6, 44);
+    wanted.put(7, 56);
+    wanted.put(8, 19);
+    wanted.put(9, 0x0070_0513);
+    wanted.put(10, 7);
+    assert!(rt; regs == wanted);
+    assert_eq!(rt; space.load(4092, 8), Some(0xffff_ffff_ffff_ff8f));
+    Ok(())
+}
+
+#[test]
+fn what_is_not_local_changes_nothing(rt: HostRuntime) -> Result<(), Fail> {
+    for (word, rights, what) in [
+        (0x0000_0073, [7, 3, 3], "ecall"),
+        (0x0010_0073, [7, 3, 3], "ebreak"),
+        (0x0000_0000, [7, 3, 3], "no instruction"),
+        (0x0020_00e7, [7, 3, 3], "jalr x1, 2(x0)"),
+        (0x0030_00e7, [7, 3, 3], "jalr x1, 3(x0)"),
+        (0x0000_0363, [7, 3, 3], "beq x0, x0, 6"),
+        (0x0000_0013, [3, 3, 3], "a nop without EXEC"),
+        (
+            0xffe1_a083,
+            [7, 3, 6],
+            "lw x1, -2(x3), half of it without READ",
+        ),
+        (0x0001_8083, [7, 3, 6], "lb x1, 0(x3) without READ"),
+        (
+            0xfe11_bca3,
+            [7, 3, 5],
+            "sd x1, -7(x3), a byte without WRITE",
+        ),
+        (0xfe10_0fa3, [7, 3, 3], "sb x1, -1(x0), past the bytes"),
+    ] {
+        let mut space = memory(rt.alloc(), rights, &[word])?;
+        let mut regs = Regs { pc: 0, x: [0; 31] };
+        regs.put(1, u64::MAX);
+        regs.put(3, 8192);
+        let before = regs;
+        assert_eq!(rt; local_step(&mut regs, &mut space), Local::Shared, "{what}");
+        assert!(rt; regs == before, "{what}");
+        assert!(rt; space.bytes.iter().skip(4).all(|b| *b == 0), "{what}");
+    }
+    Ok(())
+}
+
+/// Memory whose stores find no memory to make.
+#[derive(Drop)]
+struct Exhausted {
+    flat: Flat,
+}
+
+impl Space for Exhausted {
+    ghost cells = { λ s. flat_cells s.flat.rights.items s.flat.bytes.items };
+
+    fn fetch(&self, pc: u64) -> Option<u32> {
+        self.flat.fetch(pc)
+    }
+
+    fn load(&self, address: u64, n: u8) -> Option<u64> {
+        self.flat.load(address, n)
+    }
+
+    fn store(&mut self, address: u64, n: u8, _value: u64) -> Result<bool, NoMemory> {
+        if self.flat.can_store(address, n) {
+            Err(NoMemory)
+        } else {
+            Ok(false)
+        }
+    }
+}
+
+#[test]
+fn a_store_without_memory_changes_nothing(rt: HostRuntime) -> Result<(), Fail> {
+    // sd x1, -7(x3)
+    let mut space = Exhausted {
+        flat: memory(rt.alloc(), [7, 3, 3], &[0xfe11_bca3])?,
+    };
+    let mut regs = Regs { pc: 0, x: [0; 31] };
+    regs.put(1, u64::MAX);
+    regs.put(3, 8192);
+    let before = regs;
+    assert_eq!(rt; local_step(&mut regs, &mut space), Local::NoMemory);
+    assert!(rt; regs == before);
+    assert_eq!(rt; space.load(8185, 8), Some(0));
+    Ok(())
+}
