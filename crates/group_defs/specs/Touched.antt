@@ -1,0 +1,84 @@
+-- Which pages an interval between two barriers touched: those that a checkpoint has to write.
+use Rattle.std.specs.Prelude.{ℕ, zero, suc, ◌+◌, ◌*◌, ◌/◌, ◌&&◌, ◌==◌, not, Bool, if◌then◌else◌, List, [], ◌∷◌, ◌++◌, map, take, drop, Some, None, IsTrue}
+use Rattle.std.specs.List.{flat_map, filter, list_any, list_all, range_with_len}
+use Rattle.rv64_isa.specs.Memory.{Write}
+use Rattle.rv64_isa.specs.Numbers.{wrapped}
+use Rattle.group_defs.specs.declared.frame.Frame.{Frame}
+use Rattle.group_defs.specs.declared.frame.ObjectRec.{ObjectRec}
+use Rattle.group_defs.specs.declared.maps.Mapping.{Mapping}
+use Rattle.group_defs.specs.declared.run.Mark.{Mark}
+use Rattle.group_defs.specs.declared.run.Mark.TheVariants.{Take, Turn, Barrier, Fetch, Ack}
+use Rattle.group_defs.specs.Cells.{mapping_at, place_in, bytes_in}
+use Rattle.group_defs.specs.Group.{Group, runner}
+use Rattle.group_defs.specs.Step.{writes_in}
+use Rattle.group_defs.specs.Trace.{after_mark, is_barrier_of}
+use Rattle.group_defs.specs.Turns.{steps_of}
+
+-- A page is an object's number and the page's place in the object. All pages, each once, by object and then page:
+abbrev pub pages_of : ObjectRec → List (ℕ × ℕ)
+pages_of o = map (λ page. (o.number, page)) (range_with_len 0 o.pages)
+
+unfoldable pub all_pages : Frame → List (ℕ × ℕ)
+all_pages f = flat_map pages_of f.objects
+
+-- a page's bytes, and the pages that aren't all zero
+abbrev pub page_bytes : List (ℕ × List ℕ) → ℕ × ℕ → List ℕ
+page_bytes memory page = take 4096 (drop (4096 * page.1) (bytes_in memory page.0))
+
+abbrev pub is_zero_page : List (ℕ × List ℕ) → ℕ × ℕ → Bool
+is_zero_page memory page = list_all (λ b. b == 0) (page_bytes memory page)
+
+unfoldable pub nonzero_pages : Group → List (ℕ × ℕ)
+nonzero_pages g = filter (λ page. not (is_zero_page g.memory page)) (all_pages g.frame)
+
+-- the page that an address lies in, and those that bytes from an address on lie in
+abbrev pub page_at : List Mapping → ℕ → List (ℕ × ℕ)
+page_at maps address = elim (mapping_at maps address) [ None ↦ [] | Some m ↦ (m.object, place_in m address / 4096) ∷ [] ]
+
+unfoldable pub pages_at : List Mapping → ℕ → List ℕ → List (ℕ × ℕ)
+pages_at maps address [] = []
+pages_at maps address (b ∷ bs) = page_at maps (wrapped address) ++ pages_at maps (address + 1) bs
+
+abbrev pub pages_of_writes : List Mapping → List Write → List (ℕ × ℕ)
+pages_of_writes maps writes = flat_map (λ w. pages_at maps w.address w.bytes) writes
+
+-- the pages that a step stores to, by an instruction or a call; those of n steps; and those of a turn
+unfoldable pub touched_by_step : Group → ℕ → List (ℕ × ℕ)
+touched_by_step g pid = elim (runner g pid) [ None ↦ [] | Some p ↦ pages_of_writes p.maps (writes_in g p) ]
+
+unfoldable pub touched_by_steps : Group → ℕ → ℕ → List (ℕ × ℕ)
+touched_by_steps g pid zero = []
+touched_by_steps g pid (suc n) = touched_by_steps g pid n ++ touched_by_step (steps_of g pid n) pid
+
+abbrev pub touched_by_turn : ℕ → Group → ℕ → ℕ → List (ℕ × ℕ)
+touched_by_turn quantum g pid n = touched_by_steps g pid n ++ (if n == quantum then [] else touched_by_step (steps_of g pid n) pid)
+
+-- A barrier begins a new interval.
+abbrev pub touched_after : ℕ → Group → List (ℕ × ℕ) → Mark → List (ℕ × ℕ)
+touched_after quantum g so_far (Take worker pid) = so_far
+touched_after quantum g so_far (Turn worker pid n) = so_far ++ touched_by_turn quantum g pid n
+touched_after quantum g so_far (Barrier epoch) = []
+touched_after quantum g so_far (Fetch epoch) = so_far
+touched_after quantum g so_far (Ack epoch) = so_far
+
+-- whether a page is one of these
+abbrev pub is_among : List (ℕ × ℕ) → ℕ × ℕ → Bool
+is_among pages page = list_any (λ p. (p.0 == page.0) && (p.1 == page.1)) pages
+
+unfoldable pub touched_from : ℕ → Group → List (ℕ × ℕ) → List Mark → ℕ → List (ℕ × ℕ)
+touched_from quantum g so_far [] epoch = []
+touched_from quantum g so_far (m ∷ ms) epoch =
+    if is_barrier_of epoch m then filter (is_among so_far) (all_pages g.frame)
+    else touched_from quantum (after_mark quantum g m) (touched_after quantum g so_far m) ms epoch
+
+-- On a new disk, where the run's own epoch is 0, each page that isn't all zero at the start counts as stored to:
+-- so at the first barrier each page that isn't all zero is touched.
+abbrev pub touched_at_start : Group → ℕ → List (ℕ × ℕ)
+touched_at_start g origin = if origin == 0 then nonzero_pages g else []
+
+-- The pages of the group at the Barrier of an epoch that were touched in the interval which ends there, each once.
+abbrev pub touched_pages : ℕ → Group → ℕ → List Mark → ℕ → List (ℕ × ℕ)
+touched_pages quantum g origin marks epoch = touched_from quantum g (touched_at_start g origin) marks epoch
+
+abbrev pub IsTouched : ℕ → Group → ℕ → List Mark → ℕ → ℕ → ℕ → Type 0
+IsTouched quantum g origin marks epoch object page = IsTrue (is_among (touched_pages quantum g origin marks epoch) (object, page))

@@ -1,0 +1,80 @@
+ghost use Rattle.std.specs.Prelude.{◌≡◌, ◌↔◌, IsTrue, All};
+ghost use Rattle.group_defs.specs.Group as group;
+ghost use Rattle.group_defs.specs.Processes.{HasParent, BreakValid, RunningValid, IsWaitStatus, IsCleared, EndedValid, StateValid, ProcValid};
+
+use crate::frame::{Proc, ProcState};
+
+fn is_running(p: &Proc) -> bool
+    ensures { result ≡ group.is_running p.now }
+{
+    match p.state {
+        ProcState::Running => true,
+        ProcState::Ended { .. } => false,
+    }
+}
+
+#[tactic(auto, unfolding(crate::specs::Processes::HasParent))]
+fn has_parent(procs: &[Proc], p: &Proc) -> bool
+    ensures { IsTrue result ↔ HasParent procs.now p.now }
+{
+    procs
+        .iter()
+        .any(|q| is_running(q) && q.pid == p.parent && q.pid < p.pid)
+}
+
+#[tactic(auto, unfolding(crate::specs::Processes::BreakValid))]
+fn break_valid(p: &Proc) -> bool
+    ensures { IsTrue result ↔ BreakValid p.now }
+{
+    p.brk_base % 4_096 == 0 && p.brk_base <= p.brk && p.brk <= 1 << 37
+}
+
+#[tactic(auto, unfolding(crate::specs::Processes::RunningValid))]
+fn running_valid(procs: &[Proc], p: &Proc) -> bool
+    ensures { IsTrue result ↔ RunningValid procs.now p.now }
+{
+    p.pc % 4 == 0 && break_valid(p) && (p.parent == 0 || has_parent(procs, p))
+}
+
+#[tactic(auto, unfolding(crate::specs::Processes::IsWaitStatus))]
+fn is_wait_status(status: u32) -> bool
+    ensures { IsTrue result ↔ IsWaitStatus status }
+{
+    status % 256 == 0 && status / 256 <= 255 || matches!(status, 4 | 5 | 7 | 11)
+}
+
+#[tactic(auto, unfolding(crate::specs::Processes::IsCleared))]
+fn is_cleared(p: &Proc) -> bool
+    ensures { IsTrue result ↔ IsCleared p.now }
+{
+    p.pc == 0
+        && p.regs.iter().all(|x| *x == 0)
+        && p.brk_base == 0
+        && p.brk == 0
+        && p.maps.as_slice().is_empty()
+        && p.fds.as_slice().is_empty()
+}
+
+#[tactic(auto, unfolding(crate::specs::Processes::EndedValid))]
+fn ended_valid(procs: &[Proc], p: &Proc, status: u32) -> bool
+    ensures { IsTrue result ↔ EndedValid procs.now p.now status }
+{
+    has_parent(procs, p) && is_wait_status(status) && is_cleared(p)
+}
+
+#[tactic(auto, unfolding(crate::specs::Processes::ProcValid))]
+fn proc_valid(procs: &[Proc], p: &Proc) -> bool
+    ensures { IsTrue result ↔ ProcValid procs.now p.now }
+{
+    match p.state {
+        ProcState::Running => running_valid(procs, p),
+        ProcState::Ended { status } => ended_valid(procs, p, status),
+    }
+}
+
+/// Whether each process is a valid running or ended one among them.
+pub fn procs_valid(procs: &[Proc]) -> bool
+    ensures { IsTrue result ↔ All (ProcValid procs.now) procs.now }
+{
+    procs.iter().all(|p| proc_valid(procs, p))
+}
