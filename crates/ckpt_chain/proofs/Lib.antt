@@ -1,0 +1,4 @@
+pub mod Kept
+pub mod Laid
+mod Slots
+mod Walk

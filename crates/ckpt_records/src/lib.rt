@@ -1,0 +1,23 @@
+//! The record of a checkpoint: a group without the bytes of its pages, and where these pages lie.
+//!
+//! `read_meta` gives what the bytes spell, and nothing where they spell nothing; `write_meta` gives the one
+//! spelling. `specs/Holds` says which group the bytes of a whole disk hold: at most one. Below stand the
+//! types of groups and the chain of meta blocks; above, whatever restores or commits a group.
+#![tactic(auto)]
+
+mod counted;
+mod error;
+mod field;
+mod laws;
+mod meta;
+mod numbers;
+mod parts;
+mod record;
+#[cfg(test)]
+mod tests;
+
+pub use error::ReadError;
+pub use laws::{kept_is_held, one_held, written_is_held};
+pub use meta::{Meta, PagePlace};
+pub use numbers::num_at;
+pub use record::{read_meta, write_meta};

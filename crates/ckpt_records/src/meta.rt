@@ -1,0 +1,18 @@
+use group_defs::Frame;
+use lists::Seq;
+
+/// Where a page of an object lies on the disk. Pages count from 0 in their object, blocks in the disk.
+#[derive(Clone, Copy, Debug, PartialEq, Eq)]
+pub struct PagePlace {
+    pub object: u64,
+    pub page: u64,
+    pub block: u64,
+}
+
+/// What the record of a checkpoint says: the group without the bytes of its pages, and where those
+/// pages lie that aren't all zero.
+#[derive(Debug, Drop)]
+pub struct Meta {
+    pub frame: Frame,
+    pub pages: Seq<PagePlace>,
+}
