@@ -1,0 +1,6 @@
+pub mod Stages
+mod Told
+pub mod Slots
+pub mod Images
+pub mod Parts
+pub mod During

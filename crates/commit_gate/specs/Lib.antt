@@ -1,0 +1,4 @@
+pub mod Written
+pub mod Commit
+pub mod Whole
+pub mod Parts
