@@ -1,0 +1,5 @@
+pub mod Laid
+pub mod Pieces
+pub mod Two
+pub mod Reasons
+pub mod Slots

@@ -1,0 +1,65 @@
+//! The opening of a disk: one sync, and both slots.
+ghost use Rattle.std.specs.Prelude.{◌≡◌, ◌≤◌, ◌+◌, ◌*◌, ◌↔◌, IsTrue, IsErr, IfOk, IfErr, slice_index};
+ghost use Rattle.std.specs.Option.{ForSome};
+ghost use Rattle.dev_traits.specs.Counts.{HasCause};
+ghost use Rattle.dev_traits.specs.Disk.{OnlyReading};
+ghost use Rattle.ckpt_chain.specs.Slot.{open_body};
+ghost use Rattle.aurora_top.specs.Refusals.{IsUnwritten, IsOpened, RefusedByDisk};
+
+use crate::end::End;
+use ckpt_chain::{SlotBody, open_slot, read_slot};
+use dev_traits::{Disk, Failed};
+
+// A slot's body where it is open, and whether its gate byte reads 1.
+fn read_one<D: Disk>(disk: &mut D, place: u64) -> Result<(Option<SlotBody>, bool), Failed>
+    requires within { place + 4096 ≤ 4096 * (D.view disk.old).blocks }
+    requires only { OnlyReading (D.view disk.old) }
+    ensures slot { IfOk result (λ s. ForSome (D.view disk.old).reading (λ r. s.0 ≡ open_body r place)) }
+    ensures gate { IfOk result (λ s. ForSome (D.view disk.old).reading (λ r. IsTrue s.1 ↔ (slice_index r place ≡ 1))) }
+    ensures only { OnlyReading (D.view disk.new) }
+    ensures same { IsUnwritten (D.view disk.old) (D.view disk.new) }
+    ensures faults { HasCause (D.view disk.old).faults (D.view disk.new).faults (IsErr result) }
+{
+    let mut bytes = [0u8; 4096];
+    match disk.read_at(place, &mut bytes) {
+        Ok(()) => Ok((read_slot(&bytes), bytes[0] == 1)),
+        Err(failed) => Err(failed),
+    }
+}
+
+// Whether the gate byte of slot A reads 1, where no slot is open.
+fn read_slots<D: Disk>(disk: &mut D) -> Result<bool, End>
+    requires sized { 2 ≤ (D.view disk.old).blocks }
+    requires only { OnlyReading (D.view disk.old) }
+    ensures ok { IfOk result (λ gate. IsOpened gate (D.view disk.old) (D.view disk.new)) }
+    ensures err { IfErr result (λ e. RefusedByDisk (D.view disk.old) (D.view disk.new) e) }
+    ensures same { IsUnwritten (D.view disk.old) (D.view disk.new) }
+{
+    let (a, gate) = match read_one(disk, 0) {
+        Ok(read) => read,
+        Err(_) => return Err(End::DiskFault),
+    };
+    let (b, _) = match read_one(disk, 4096) {
+        Ok(read) => read,
+        Err(_) => return Err(End::DiskFault),
+    };
+    match open_slot(a, b) {
+        None => Ok(gate),
+        Some(_) => Err(End::NotBuilt),
+    }
+}
+
+/// Syncs the disk and reads both slots: whether the gate byte of slot A reads 1. `opened_at` gets the moment at
+/// which the sync answered Ok.
+pub fn open_disk<D: Disk>(disk: &mut D, opened_at: &mut Option<u64>) -> Result<bool, End>
+    requires sized { 2 ≤ (D.view disk.old).blocks }
+    ensures ok { IfOk result (λ gate. IsOpened gate (D.view disk.old) (D.view disk.new)) }
+    ensures err { IfErr result (λ e. RefusedByDisk (D.view disk.old) (D.view disk.new) e) }
+    ensures same { IsUnwritten (D.view disk.old) (D.view disk.new) }
+{
+    if disk.sync().is_err() {
+        return Err(End::DiskFault);
+    }
+    *opened_at = Some(disk.moment());
+    read_slots(disk)
+}

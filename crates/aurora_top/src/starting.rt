@@ -1,0 +1,81 @@
+//! What stands before a run: the tests of the command, the disk, the manifest and the output.
+ghost use Rattle.std.specs.Prelude.{◌≡◌, ◌≤◌, ◌↔◌, IsTrue, List, ℕ, IfOk, IfErr, slice_index};
+ghost use Rattle.std.specs.Option.{ForSome};
+ghost use Rattle.dev_traits.specs.Disk.{OnlyReading};
+ghost use Rattle.aurora_top.specs.Refusals.{HasSize, NamesImage, RefusedByFiles, Refused, Runs, IsUnwritten};
+
+use crate::end::End;
+use crate::flat_group::{FlatGroup, first_group};
+use crate::manifest::load;
+use crate::opening::open_disk;
+use crate::words::{is_run, manifest_of};
+use dev_traits::{Disk, Files, Sink, Word};
+use lists::NoMemory;
+use std::alloc::Global;
+
+/// A run that can begin.
+#[derive(Drop)]
+pub struct Start {
+    /// Whether the gate byte of slot A reads 1.
+    pub close: bool,
+    pub group: FlatGroup,
+}
+
+fn has_size(blocks: u64) -> bool
+    ensures { IsTrue result ↔ HasSize blocks }
+{
+    16 <= blocks && blocks <= 1_048_576
+}
+
+/// The first group of the manifest's image.
+fn boot<F: Files>(alloc: Global, files: &mut F, manifest: &str) -> Result<FlatGroup, End>
+    ensures ok { IfOk result (λ group. ForSome (F.view files.old).contents (λ held. (image : List ℕ) × NamesImage held manifest.now image)) }
+    ensures err { IfErr result (λ e. RefusedByFiles manifest.now (F.view files.old) (F.view files.new) e) }
+    ensures contents { (F.view files.new).contents ≡ (F.view files.old).contents }
+    ensures later { (F.view files.old).faults ≤ (F.view files.new).faults }
+{
+    let image = match load(alloc, files, manifest) {
+        Ok(image) => image,
+        Err(end) => return Err(end),
+    };
+    match first_group(alloc, image) {
+        Ok(group) => Ok(group),
+        Err(NoMemory) => Err(End::NoMemory),
+    }
+}
+
+/// Makes all tests before a run, in their order.
+pub fn prepare<F: Files, D: Disk, O: Sink>(
+    alloc: Global,
+    words: &[Word],
+    files: &mut F,
+    disk: &mut D,
+    out: &O,
+    opened_at: &mut Option<u64>,
+) -> Result<Start, End>
+    ensures ok { IfOk result (λ start. Runs words.now (D.view disk.old) (F.view files.old) (O.view out.now).count) }
+    ensures only { IfOk result (λ start. OnlyReading (D.view disk.new)) }
+    ensures gate { IfOk result (λ start. ForSome (D.view disk.old).reading (λ r. IsTrue start.close ↔ (slice_index r 0 ≡ 1))) }
+    ensures err { IfErr result (λ e. Refused words.now (D.view disk.old) (D.view disk.new) (F.view files.old) (F.view files.new) (O.view out.now).count e) }
+    ensures same { IsUnwritten (D.view disk.old) (D.view disk.new) }
+    ensures later { (F.view files.old).faults ≤ (F.view files.new).faults }
+{
+    if !is_run(words) {
+        return Err(End::Usage);
+    }
+    if !has_size(disk.blocks()) {
+        return Err(End::NotBuilt);
+    }
+    let close = match open_disk(disk, opened_at) {
+        Ok(close) => close,
+        Err(end) => return Err(end),
+    };
+    let group = match boot(alloc, files, manifest_of(words)) {
+        Ok(group) => group,
+        Err(end) => return Err(end),
+    };
+    if out.taken() != 0 {
+        return Err(End::NotBuilt);
+    }
+    Ok(Start { close, group })
+}

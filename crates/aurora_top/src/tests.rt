@@ -1,0 +1,289 @@
+use crate::{End, Ending, aurora_solo};
+use dev_traits::Word;
+use dev_traits::mem::{MemDisk, MemFiles, MemSink};
+use group_defs::Mark;
+use std::alloc::Global;
+use std::test::Fail;
+
+type Run = Ending<MemFiles, MemDisk, MemSink, MemSink>;
+
+/// The manifest of the image `p`.
+const FLAT_P: &[u8] = b"aurora 1\nflat p\n";
+
+/// Exits with 0 at once.
+const EXIT: &[u32] = &[0x05d0_0893, 0x0000_0513, 0x0000_0073];
+
+/// Writes three bytes that stand behind it, and exits with 7.
+const WRITE_HI: &[u32] = &[
+    0x0001_05b7,
+    0x0245_8593,
+    0x0010_0513,
+    0x0030_0613,
+    0x0400_0893,
+    0x0000_0073,
+    0x0070_0513,
+    0x05d0_0893,
+    0x0000_0073,
+];
+
+/// Jumps to itself.
+const LOOP: &[u32] = &[0x0000_006f];
+
+fn image(alloc: Global, words: &[u32], tail: &[u8]) -> Result<Vec<u8>, Fail> {
+    let mut bytes = Vec::new(alloc);
+    for word in words {
+        bytes.extend_from_slice(&word.to_le_bytes())?;
+    }
+    bytes.extend_from_slice(tail)?;
+    Ok(bytes)
+}
+
+fn words(alloc: Global, texts: &[&str]) -> Result<Vec<Word>, Fail> {
+    let mut list = Vec::new(alloc);
+    for text in texts {
+        list.push(Word::new(alloc, text)?)?;
+    }
+    Ok(list)
+}
+
+fn files(alloc: Global, manifest: &[u8], image: Vec<u8>) -> Result<MemFiles, Fail> {
+    let mut list = Vec::new(alloc);
+    list.push((Word::new(alloc, "m")?, manifest.to_vec(alloc)?))?;
+    list.push((Word::new(alloc, "p")?, image))?;
+    Ok(MemFiles::of(alloc, list))
+}
+
+/// Sixteen blocks of zeros.
+const SIXTEEN: usize = 65_536;
+
+fn disk(alloc: Global, size: usize) -> Result<MemDisk, Fail> {
+    Ok(MemDisk::of(alloc, vec![in alloc; 0u8; size]?, 100)?)
+}
+
+fn sink(alloc: Global, bytes: &[u8]) -> Result<MemSink, Fail> {
+    Ok(MemSink::of(alloc, bytes.to_vec(alloc)?, 1000)?)
+}
+
+fn run(
+    alloc: Global,
+    texts: &[&str],
+    files: MemFiles,
+    disk: MemDisk,
+    out: MemSink,
+) -> Result<Run, Fail> {
+    let words = words(alloc, texts)?;
+    let say = sink(alloc, b"")?;
+    Ok(aurora_solo(alloc, &words, files, disk, out, say))
+}
+
+/// Lets what a call handed back go, and says how it ended.
+fn end_of(run: Run) -> End {
+    let Ending {
+        status: _,
+        end,
+        origin_epoch: _,
+        opened_at: _,
+        trace: _,
+        acks: _,
+        files: _,
+        disk: _,
+        out: _,
+        say: _,
+    } = run;
+    end
+}
+
+#[test]
+fn a_program_exits(rt: HostRuntime) -> Result<(), Fail> {
+    let alloc = rt.alloc();
+    let files = files(alloc, FLAT_P, image(alloc, EXIT, b"")?)?;
+    let run = run(
+        alloc,
+        &["run", "d", "o", "m"],
+        files,
+        disk(alloc, SIXTEEN)?,
+        sink(alloc, b"")?,
+    )?;
+    assert_eq!(rt; run.status, 0);
+    assert_eq!(rt; run.opened_at, 1);
+    let trace = [
+        Mark::Take { worker: 0, pid: 1 },
+        Mark::Turn {
+            worker: 0,
+            pid: 1,
+            n: 2,
+        },
+        Mark::Barrier { epoch: 1 },
+        Mark::Fetch { epoch: 1 },
+        Mark::Ack { epoch: 1 },
+    ];
+    assert_eq!(rt; run.trace.as_slice(), trace.as_slice());
+    assert_eq!(rt; run.acks.len(), 1);
+    assert_eq!(rt;
+        end_of(run),
+        End::Done {
+            epoch: 1,
+            turns: 1,
+            output: 0
+        }
+    );
+    Ok(())
+}
+
+#[test]
+fn output_is_released(rt: HostRuntime) -> Result<(), Fail> {
+    let alloc = rt.alloc();
+    let files = files(alloc, FLAT_P, image(alloc, WRITE_HI, b"hi\n")?)?;
+    let run = run(
+        alloc,
+        &["run", "d", "o", "m"],
+        files,
+        disk(alloc, SIXTEEN)?,
+        sink(alloc, b"")?,
+    )?;
+    assert_eq!(rt; run.out.bytes(), b"hi\n".as_slice());
+    assert_eq!(rt;
+        end_of(run),
+        End::Done {
+            epoch: 1,
+            turns: 2,
+            output: 3
+        }
+    );
+    Ok(())
+}
+
+/// A command, and what it finds.
+struct Case {
+    texts: &'static [&'static str],
+    manifest: &'static [u8],
+    image: usize,
+    blocks: usize,
+    out: &'static [u8],
+    end: End,
+}
+
+const RUN: &[&str] = &["run", "d", "o", "m"];
+
+/// A command that stops at its image: the first word is no instruction.
+const GOOD: Case = Case {
+    texts: RUN,
+    manifest: FLAT_P,
+    image: 4096,
+    blocks: SIXTEEN,
+    out: b"",
+    end: End::Done {
+        epoch: 1,
+        turns: 1,
+        output: 0,
+    },
+};
+
+/// Each refusal that a command alone makes, each with its answer.
+const CASES: [Case; 11] = [
+    GOOD,
+    Case {
+        texts: &[],
+        end: End::Usage,
+        ..GOOD
+    },
+    Case {
+        texts: &["run", "d", "o"],
+        end: End::Usage,
+        ..GOOD
+    },
+    Case {
+        texts: &["run", "d", "-o", "m"],
+        end: End::Usage,
+        ..GOOD
+    },
+    Case {
+        texts: &["run", "d", "o", "q"],
+        end: End::NotBuilt,
+        ..GOOD
+    },
+    Case {
+        blocks: 15 * 4096,
+        end: End::NotBuilt,
+        ..GOOD
+    },
+    Case {
+        manifest: b"aurora 1\nflat p",
+        end: End::NotBuilt,
+        ..GOOD
+    },
+    Case {
+        manifest: b"aurora 1\nflat q\n",
+        end: End::NotBuilt,
+        ..GOOD
+    },
+    Case {
+        image: 0,
+        end: End::NotBuilt,
+        ..GOOD
+    },
+    Case {
+        image: 4097,
+        end: End::NotBuilt,
+        ..GOOD
+    },
+    Case {
+        out: b"x",
+        end: End::NotBuilt,
+        ..GOOD
+    },
+];
+
+#[test]
+fn refusals(rt: HostRuntime) -> Result<(), Fail> {
+    let alloc = rt.alloc();
+    for case in &CASES {
+        let files = files(alloc, case.manifest, vec![in alloc; 0u8; case.image]?)?;
+        let run = run(
+            alloc,
+            case.texts,
+            files,
+            disk(alloc, case.blocks)?,
+            sink(alloc, case.out)?,
+        )?;
+        assert_eq!(rt; run.out.bytes(), case.out);
+        assert_eq!(rt; end_of(run), case.end);
+    }
+    Ok(())
+}
+
+#[test]
+fn faults(rt: HostRuntime) -> Result<(), Fail> {
+    let alloc = rt.alloc();
+    let first = vec![in alloc; 1u64; 1]?;
+    let files = files(alloc, FLAT_P, image(alloc, LOOP, b"")?)?;
+    let failing = disk(alloc, SIXTEEN)?.failing(first);
+    assert_eq!(rt;
+        end_of(run(alloc, RUN, files, failing, sink(alloc, b"")?)?),
+        End::DiskFault
+    );
+    let first = vec![in alloc; 1u64; 1]?;
+    let files = self::files(alloc, FLAT_P, image(alloc, LOOP, b"")?)?.failing(first);
+    assert_eq!(rt;
+        end_of(run(alloc, RUN, files, disk(alloc, SIXTEEN)?, sink(alloc, b"")?)?),
+        End::FilesFault
+    );
+    let first = vec![in alloc; 1u64; 1]?;
+    let files = self::files(alloc, FLAT_P, image(alloc, WRITE_HI, b"hi\n")?)?;
+    let out = sink(alloc, b"")?.failing(first);
+    assert_eq!(rt;
+        end_of(run(alloc, RUN, files, disk(alloc, SIXTEEN)?, out)?),
+        End::SinkFault
+    );
+    let files = self::files(alloc, FLAT_P, image(alloc, LOOP, b"")?)?;
+    let spent = End::Spent {
+        epoch: 1,
+        turns: 8,
+        output: 0,
+    };
+    assert_eq!(rt;
+        end_of(run(alloc, RUN, files, disk(alloc, SIXTEEN)?, sink(alloc, b"")?)?),
+        spent
+    );
+    Ok(())
+}
