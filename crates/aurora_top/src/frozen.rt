@@ -1,5 +1,8 @@
 //! A group at a barrier.
-ghost use Rattle.std.specs.Prelude.{◌≡◌, ◌<◌, ◌+◌, ◌/◌, ◌^◌, length};
+ghost use Rattle.std.specs.List.{AllByRecursion};
+ghost use Rattle.group_defs.specs.Output.{last_position};
+ghost use Rattle.ckpt_records.specs.Fits.{IsInForm, HasEnd};
+ghost use Rattle.std.specs.Prelude.{◌≡◌, ◌<◌, ◌+◌, ◌/◌, ◌^◌, length, IfOk};
 
 use crate::flat_group::FlatGroup;
 use crate::flat_memory::{FlatMemory, IMAGE_START, STACK_START};
@@ -30,7 +33,9 @@ fn pages_of(bytes: &[u8]) -> u64
     bytes.len() as u64 / 4096
 }
 
-fn list_of<T: Copy + Drop>(alloc: Global, items: &[T]) -> Result<Seq<T>, NoMemory> {
+fn list_of<T: Copy + Drop>(alloc: Global, items: &[T]) -> Result<Seq<T>, NoMemory>
+    ensures { IfOk result (λ list. list ≡ items.now) }
+{
     Ok(Seq::of(Vec::from_slice(alloc, items)?))
 }
 
@@ -39,7 +44,9 @@ fn descriptors(alloc: Global) -> Result<Seq<(u32, u64)>, NoMemory> {
     list_of(alloc, &[(0, 0), (1, 1), (2, 1)])
 }
 
-fn opens(alloc: Global) -> Result<Seq<Open>, NoMemory> {
+fn opens(alloc: Global) -> Result<Seq<Open>, NoMemory>
+    ensures { IfOk result (λ opens. AllByRecursion (λ o. HasEnd o.kind) opens) }
+{
     let nothing = Open {
         number: 0,
         kind: OpenKind::Nothing,
@@ -108,6 +115,7 @@ fn process(alloc: Global, regs: Regs, memory: &FlatMemory) -> Result<Seq<Proc>, 
 /// The output at a barrier: its mark is the last position.
 fn marked(out: Out) -> Out
     requires { out.from + length out.bytes < 2 ^ 64 }
+    ensures { result.mark ≡ last_position result }
 {
     Out {
         from: out.from,
@@ -123,7 +131,10 @@ fn frame(
     regs: Regs,
     memory: &FlatMemory,
     out: Out,
-) -> Result<Frame, NoMemory> {
+) -> Result<Frame, NoMemory>
+    requires { out.mark ≡ last_position out }
+    ensures { IfOk result (λ frame. IsInForm frame) }
+{
     let mut frame = Frame {
         procs: Seq::new(alloc),
         objects: Seq::new(alloc),
@@ -152,7 +163,9 @@ fn table_of(alloc: Global, memory: FlatMemory) -> Result<Vec<(u64, Vec<u8>)>, No
 }
 
 /// The group at the first barrier, before which nothing was marked.
-pub fn freeze(alloc: Global, g: FlatGroup) -> Result<Frozen, NoMemory> {
+pub fn freeze(alloc: Global, g: FlatGroup) -> Result<Frozen, NoMemory>
+    ensures { IfOk result (λ frozen. IsInForm frozen.frame) }
+{
     let FlatGroup {
         running,
         regs,

@@ -2,12 +2,10 @@
 //!
 //! `aurora_solo` runs one flat program up to one checkpoint and releases its output. It returns on every list of
 //! words and on every device that keeps to the traits, and says why it ended. The program stands above; the devices'
-//! traits, the group's types, the local step and the commit stand below.
+//! traits, the group's types, the local step, the record of a checkpoint and the commit stand below.
 #![tactic(auto)]
 
 mod calls;
-mod chain;
-mod commit;
 mod end;
 mod engine;
 mod flat_group;
@@ -17,10 +15,8 @@ mod manifest;
 mod opening;
 mod placement;
 mod plan;
-mod record;
 mod release;
 mod solo;
-mod spelled;
 mod starting;
 mod words;
 

@@ -1,53 +1,9 @@
-//! Where pages and blocks of a checkpoint go.
-ghost use Rattle.std.specs.Prelude.{◌≡◌, ◌≤◌, length};
+//! Where pages of a checkpoint go.
 
-use lists::NoMemory;
+use ckpt_records::PagePlace;
+use commit_gate::Block;
+use lists::{NoMemory, Seq};
 use std::alloc::Global;
-use std::marker::Model;
-
-/// Where a page lies on the disk.
-#[derive(Clone, Copy, Debug, Drop, PartialEq, Eq)]
-pub struct PagePlace {
-    /// The object's number.
-    pub object: u64,
-    /// The page of the object.
-    pub page: u64,
-    /// The block with its bytes.
-    pub block: u64,
-}
-
-/// The bytes of one block, 4,096 of them.
-#[derive(Debug, Drop)]
-pub struct Block {
-    bytes: Vec<u8>,
-}
-
-impl Model for Block {
-    ghost use Rattle.std.specs.Prelude.{List, ℕ, length, ◌≡◌};
-
-    ghost Value = { List ℕ };
-
-    ghost view = { λ b. b.bytes.items };
-
-    ghost invariant = { λ b. length b.bytes.items ≡ 4096 };
-}
-
-impl Block {
-    /// A block of these bytes.
-    pub fn of(bytes: Vec<u8>) -> Block
-        requires { length bytes.items ≡ 4096 }
-        ensures { result ≡ bytes.items }
-    {
-        Block { bytes }
-    }
-
-    pub fn as_slice(&self) -> &[u8]
-        ensures bytes { result.now ≡ self.now }
-        ensures size { length result.now ≡ 4096 }
-    {
-        self.bytes.as_slice()
-    }
-}
 
 fn is_zero(page: &[u8]) -> bool {
     page.iter().all(|b| *b == 0)
@@ -70,16 +26,17 @@ impl Placed {
         object: u64,
         page: u64,
         bytes: &[u8],
-    ) -> Result<(), NoMemory>
-        requires { length bytes.now ≡ 4096 }
-    {
+    ) -> Result<(), NoMemory> {
         let block = FIRST_BLOCK + self.blocks.len() as u64;
         self.pages.push(PagePlace {
             object,
             page,
             block,
         })?;
-        self.blocks.push(Block::of(Vec::from_slice(alloc, bytes)?))?;
+        self.blocks.push(Block {
+            number: block,
+            bytes: Seq::of(Vec::from_slice(alloc, bytes)?),
+        })?;
         Ok(())
     }
 

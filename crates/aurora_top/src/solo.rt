@@ -7,15 +7,14 @@ ghost use Rattle.aurora_top.specs.Words.{is_run};
 ghost use Rattle.aurora_top.specs.Refusals.{HasSize};
 ghost use Rattle.aurora_top.specs.Answers.{EndsFor, IsRunEnd, WasRefused, WasRun};
 
-use crate::commit::commit;
 use crate::end::{End, Ending, status_of};
 use crate::engine::turns;
 use crate::frozen::{Frozen, freeze};
-use crate::placement::FIRST_BLOCK;
 use crate::plan::{Plan, plan_of};
 use crate::release::release;
 use crate::starting::{Start, prepare};
-use commit_gate::BadDisk;
+use ckpt_chain::Slot;
+use commit_gate::{BadDisk, are_placed, commit};
 use dev_traits::{Disk, Files, Sink, Word};
 use group_defs::{AckMark, Mark};
 use lists::{NoMemory, Seq};
@@ -96,10 +95,10 @@ fn persist<D: Disk, O: Sink>(
     requires gate { ForSome (D.view disk).reading (λ r. IsTrue close ↔ (slice_index r 0 ≡ 1)) }
     ensures { EndsFor (D.view disk) (D.view result.0) (O.view out.old) (O.view out.new) result.1 }
 {
-    if ready.plan.blocks.len() as u64 > disk.blocks() - FIRST_BLOCK {
+    if !are_placed(&ready.plan.blocks, disk.blocks()) {
         return (disk, End::NoMemory);
     }
-    let disk = match commit(disk, close, &ready.plan.blocks, ready.plan.body) {
+    let disk = match commit(disk, Slot::A, close, &ready.plan.blocks, ready.plan.body) {
         Ok(disk) => disk,
         Err(BadDisk { disk }) => return (disk, End::DiskFault),
     };

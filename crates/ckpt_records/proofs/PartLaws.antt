@@ -25,9 +25,6 @@ use Rattle.ckpt_records.specs.Spelling as spelling
 use Rattle.ckpt_records.specs.Spelling.{flag, kind_parts, state_parts}
 use Rattle.ckpt_records.specs.Reading as reading
 use Rattle.ckpt_records.specs.Spells.{Spells, IsOrderly}
-use Rattle.group_defs.specs.Descriptions.{TargetIsThere, OpenValid, DescriptionsValid}
-use Rattle.group_defs.specs.Valid.{FrameValid}
-use Rattle.std.proofs.lemmas.List.Elements.{recursion_from_All}
 use Rattle.ckpt_records.specs.Reading.{flag_of, kind_of, state_of, out_of}
 use Rattle.ckpt_records.proofs.CodecLaws.{IsField, IsBytes, Takes, Takes-then, bind_some, some_is, passed_some, number-field, both-field, made-field, partly-field, small-field, below_takes, below_again, text-field, list-field, times_takes, times_again}
 
@@ -235,28 +232,24 @@ not_orderly bytes blocks g f others pages found never s =
 
 -- ---- what is written
 
-kind_fits : (f : Frame) (k : OpenKind) → fits.KindRange k → TargetIsThere f k → fits.KindFits k
-kind_fits f kinds.Nothing range there = tt
-kind_fits f kinds.Outside range there = tt
-kind_fits f (kinds.File t) range there = range
-kind_fits f (kinds.PipeRead t) range there = range
-kind_fits f (kinds.PipeWrite t) range there = range
-kind_fits f (kinds.PairEnd t e) range there = (range.0, there.1)
+kind_fits : (k : OpenKind) → fits.KindRange k → fits.HasEnd k → fits.KindFits k
+kind_fits kinds.Nothing range one = tt
+kind_fits kinds.Outside range one = tt
+kind_fits (kinds.File t) range one = range
+kind_fits (kinds.PipeRead t) range one = range
+kind_fits (kinds.PipeWrite t) range one = range
+kind_fits (kinds.PairEnd t e) range one = (range.0, one)
 
-open_fits : (f : Frame) (os : List Open) → AllByRecursion fits.OpenRange os → AllByRecursion (OpenValid f) os → AllByRecursion fits.OpenFits os
-unfolding OpenValid
-open_fits f [] range valid = tt
-open_fits f (o ∷ os) range valid = ((range.0.0, (kind_fits f o.kind range.0.1.0 valid.0.1, range.0.1.1)), open_fits f os range.1 valid.1)
+open_fits : (os : List Open) → AllByRecursion fits.OpenRange os → AllByRecursion (λ o. fits.HasEnd o.kind) os → AllByRecursion fits.OpenFits os
+open_fits [] range ends = tt
+open_fits (o ∷ os) range ends = ((range.0.0, (kind_fits o.kind range.0.1.0 ends.0, range.0.1.1)), open_fits os range.1 ends.1)
 
-opens_of : (f : Frame) → DescriptionsValid f → AllByRecursion (OpenValid f) f.opens
-unfolding DescriptionsValid
-opens_of f valid = recursion_from_All (OpenValid f) f.opens valid.0
-
-pub written_record : (bytes : List ℕ) (f : Frame) (pages : List PagePlace) → bytes ≡ spelling.record_bytes f pages → fits.RecordRange f pages → FrameValid f → f.out.mark ≡ f.out.from + length f.out.bytes
+pub written_record : (bytes : List ℕ) (f : Frame) (pages : List PagePlace) → bytes ≡ spelling.record_bytes f pages → fits.RecordRange f pages → fits.IsInForm f
     → (blocks : ℕ) → IsOrderly blocks f pages → Spells bytes blocks f pages
-written_record bytes f pages is range valid mark blocks orderly =
+written_record bytes f pages is range form blocks orderly =
+    let mark = form.all_marked in
     let out : fits.OutFits f.out = record { mark = mark; end = omega (arith, mark, range.0.1.0.1.0) } in
-    let opens : fits.ListFits fits.OpenFits f.opens = (range.1.0.1.1.0, open_fits f f.opens range.1.0.1.1.1 (opens_of f valid.descriptions)) in
+    let opens : fits.ListFits fits.OpenFits f.opens = (range.1.0.1.1.0, open_fits f.opens range.1.0.1.1.1 form.ends) in
     record {
       spelled = is;
       fits = (range.0.0, (out, (range.0.1.1.0, (range.0.1.1.1, (range.1.0.0, (range.1.0.1.0, (opens, (range.1.1.0, range.1.1.1))))))));

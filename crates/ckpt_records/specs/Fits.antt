@@ -1,6 +1,7 @@
 -- The ranges of a frame's numbers. The code's types give them; a frame of a definition has them where it fits.
 use Rattle.std.specs.Prelude.{◌≡◌, ℕ, ◌+◌, ◌<◌, ◌^◌, List, length, ⊤}
 use Rattle.std.specs.List.{AllByRecursion}
+use Rattle.group_defs.specs.Output.{last_position}
 use Rattle.group_defs.specs.declared.frame.Frame.{Frame}
 use Rattle.group_defs.specs.declared.frame.Proc.{Proc}
 use Rattle.group_defs.specs.declared.frame.ProcState.{ProcState}
@@ -104,3 +105,17 @@ MiddleRange f = ListFits PipeFits f.pipes × (ListFits PairFits f.pairs × ListF
 -- what the types alone say of a record
 abbrev pub RecordRange : Frame → List PagePlace → Type 0
 RecordRange f pages = FrontRange f × (MiddleRange f × (ListFits ProcFits f.procs × ListFits PageFits pages))
+
+-- an end of a pair is 0 or 1
+abbrev pub HasEnd : OpenKind → Type 0
+HasEnd kinds.Nothing = ⊤
+HasEnd kinds.Outside = ⊤
+HasEnd (kinds.File object) = ⊤
+HasEnd (kinds.PipeRead pipe) = ⊤
+HasEnd (kinds.PipeWrite pipe) = ⊤
+HasEnd (kinds.PairEnd pair end) = end < 2
+
+-- What a record can say of a frame: its mark is its last position, and each end of a pair is 0 or 1. A valid frame has the second.
+pub record IsInForm (f : Frame) : Type 0 where
+  pub all_marked : f.out.mark ≡ last_position f.out
+  pub ends : AllByRecursion (λ o. HasEnd o.kind) f.opens

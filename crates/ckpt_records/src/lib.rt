@@ -20,4 +20,4 @@ pub use error::ReadError;
 pub use laws::{kept_is_held, one_held, written_is_held};
 pub use meta::{Meta, PagePlace};
 pub use numbers::num_at;
-pub use record::{read_meta, write_meta};
+pub use record::{is_in_form, read_meta, write_meta};

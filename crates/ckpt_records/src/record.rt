@@ -1,12 +1,12 @@
 ghost use Rattle.std.specs.Prelude.{◌≡◌, ◌++◌, ◌↔◌, ◌<◌, ◌+◌, ℕ, length, List, IsTrue, IfOk, IfSome, MatchOption, OnOk};
 ghost use Rattle.group_defs.specs.Output.{last_position};
-ghost use Rattle.group_defs.specs.Valid.{FrameValid};
+ghost use Rattle.std.specs.List.{AllByRecursion};
 ghost use Rattle.group_defs.specs.declared.frame.Frame.{Frame};
 ghost use Rattle.ckpt_records.specs.declared.meta.PagePlace.{PagePlace};
 ghost use Rattle.ckpt_records.specs.Gives.{Gives};
 ghost use Rattle.ckpt_records.specs.Reading.{record_at, parts_at, head_at, parts_of as frame_parts};
 ghost use Rattle.ckpt_records.specs.Spelling.{record_bytes, magic, front, middle};
-ghost use Rattle.ckpt_records.specs.Fits.{RecordRange, FrontRange, MiddleRange};
+ghost use Rattle.ckpt_records.specs.Fits.{RecordRange, FrontRange, MiddleRange, HasEnd, IsInForm};
 ghost use Rattle.ckpt_records.specs.Spells.{Spells, IsOrderly, IsPlaced, IsPageOf, PagesRise};
 
 use crate::counted::{list_of, put_items, put_list};
@@ -14,7 +14,9 @@ use crate::error::ReadError;
 use crate::field::Field;
 use crate::meta::{Meta, PagePlace};
 use crate::numbers::u64_at;
-use group_defs::{FileRec, Frame, Next, ObjectRec, Open, Out, Pair, Pipe, Proc, lists_rise};
+use group_defs::{
+    FileRec, Frame, Next, ObjectRec, Open, OpenKind, Out, Pair, Pipe, Proc, lists_rise,
+};
 use lists::NoMemory;
 use std::alloc::{AllocError, Global};
 
@@ -121,11 +123,45 @@ pub fn read_meta(alloc: Global, bytes: &[u8], blocks: u64) -> Result<Option<Meta
     }
 }
 
-/// The one spelling of a frame and a list of pages.
+/// Whether a record can say all of a frame. A valid frame whose mark is its last position is in form.
+pub fn is_in_form(frame: &Frame) -> bool
+    ensures { IsTrue result ↔ IsInForm frame.now }
+{
+    is_all_marked(&frame.out) && have_ends(frame.opens.as_slice())
+}
+
+fn is_all_marked(out: &Out) -> bool
+    ensures { IsTrue result ↔ (out.now.mark ≡ last_position out.now) }
+{
+    out.mark >= out.from && out.mark - out.from == out.bytes.len() as u64
+}
+
+fn has_end(kind: OpenKind) -> bool
+    ensures { IsTrue result ↔ HasEnd kind }
+{
+    match kind {
+        OpenKind::PairEnd { end, .. } => end < 2,
+        _ => true,
+    }
+}
+
+fn have_ends(opens: &[Open]) -> bool
+    ensures { IsTrue result ↔ AllByRecursion (λ o. HasEnd o.kind) opens.now }
+{
+    for o in opens {
+        if !has_end(o.kind) {
+            return false;
+        }
+    }
+    true
+}
+
+/// The one spelling of a frame and a list of pages. `is_in_form` tests what it needs; the record is read
+/// again where the lists rise and each page has its place.
 pub fn write_meta(alloc: Global, frame: &Frame, pages: &[PagePlace]) -> Result<Vec<u8>, NoMemory>
-    requires valid { FrameValid frame.now }
-    requires all_marked { frame.now.out.mark ≡ last_position frame.now.out }
-    ensures { IfOk result (λ v. (blocks : ℕ) → IsOrderly blocks frame.now pages.now → Spells v.items blocks frame.now pages.now) }
+    requires { IsInForm frame.now }
+    ensures bytes { IfOk result (λ v. v.items ≡ record_bytes frame.now pages.now) }
+    ensures spelled { IfOk result (λ v. (blocks : ℕ) → IsOrderly blocks frame.now pages.now → Spells v.items blocks frame.now pages.now) }
 {
     match put_record(alloc, frame, pages) {
         Ok(out) => Ok(out),

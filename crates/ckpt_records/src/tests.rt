@@ -1,4 +1,4 @@
-use crate::{Meta, PagePlace, num_at, read_meta, write_meta};
+use crate::{Meta, PagePlace, is_in_form, num_at, read_meta, write_meta};
 use group_defs::{
     Frame, Mapping, Next, ObjectRec, Open, OpenKind, Out, Proc, ProcState, frame_valid,
 };
@@ -88,8 +88,7 @@ fn first_pages(alloc: Global, count: u64) -> Result<Vec<PagePlace>, Fail> {
 }
 
 fn spelled(alloc: Global, frame: &Frame, pages: &[PagePlace]) -> Result<Vec<u8>, Fail> {
-    let last = frame.out.bytes.as_slice().len() as u64;
-    if !frame_valid(frame) || frame.out.from != 0 || frame.out.mark != last {
+    if !frame_valid(frame) || !is_in_form(frame) {
         return Err(Fail::new("the frame is not that of a checkpoint"));
     }
     Ok(write_meta(alloc, frame, pages)?)

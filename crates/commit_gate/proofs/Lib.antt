@@ -4,3 +4,4 @@ pub mod Slots
 pub mod Images
 pub mod Parts
 pub mod During
+pub mod Finished

@@ -16,7 +16,8 @@ use std::snapshot::Snapshot;
 #[derive(Clone, Copy, Debug, Drop, PartialEq, Eq)]
 pub struct DiskFault;
 
-/// The disk after a fault. The commit is over.
+/// The disk after a fault. The commit is over. What the call that failed may have left is what it may leave
+/// when it answers Ok.
 pub struct BadDisk<D> {
     pub disk: D,
 }
@@ -37,7 +38,9 @@ pub struct Closed<D: Disk> {
     pub ghost since: { (image : List ℕ) → (D.view disk).left (D.view start.value).moment image → IsBeforeLaid (D.view start.value).reading target close written image },
 }
 
-/// The blocks are on the disk: a stop leaves its reading.
+/// The blocks are on the disk: a stop leaves its reading. By the clauses of `start` and of each `write`,
+/// which compose, the blocks then read as written, the target's gate reads 0 where it was closed, and all
+/// else reads as at `start`.
 pub struct Laid<D: Disk> {
     pub disk: D,
     pub target: Slot,
@@ -84,7 +87,8 @@ fn close_gate<D: Disk>(disk: &mut D, target: Slot, close: bool) -> Result<(), Fa
     Ok(())
 }
 
-/// Begins a commit to this slot: where its gate reads 1, byte 0 is written to it.
+/// Begins a commit to this slot: where its gate reads 1, byte 0 is written to it. That write is none that
+/// a disk counts to its commits.
 pub fn start<D: Disk>(disk: D, target: Slot, close: bool) -> Result<Closed<D>, BadDisk<D>>
     requires sized { (16 ≤ (D.view disk).blocks) × ((D.view disk).blocks ≤ 1048576) }
     requires only { OnlyReading (D.view disk) }
@@ -178,7 +182,7 @@ impl<D: Disk> Closed<D> {
         Ok(Laid { disk, target })
     }
 
-    /// Ends the commit, and hands the disk back as it is.
+    /// Ends the commit, and hands the disk back as it is: a stop leaves what it may leave before `laid`.
     pub fn give_up(self) -> D
         ensures { result ≡ self.disk }
     {
