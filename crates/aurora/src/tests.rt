@@ -1,5 +1,6 @@
 use crate::run_on_files;
 use dev_traits::Word;
+use std::alloc::Global;
 use std::fs;
 use std::test::Fail;
 
@@ -16,40 +17,71 @@ const WRITE_HI: [u32; 9] = [
     0x0000_0073,
 ];
 
-/// Runs a program from real files twice: its output is in the file, and the disk has its checkpoint.
-#[test]
-fn runs_from_files(rt: HostRuntime) -> Result<(), Fail> {
+/// The names of the files of one run.
+#[derive(Drop)]
+struct Names {
+    disk: String,
+    out: String,
+    manifest: String,
+    program: String,
+}
+
+fn names(rt: &HostRuntime) -> Result<Names, Fail> {
     let alloc = rt.alloc();
-    let folder = format!(in alloc; "/tmp/aurora-{}", std::process::id(rt.process()))?;
-    let (disk, out) = (
-        format!(in alloc; "{folder}-d")?,
-        format!(in alloc; "{folder}-o")?,
-    );
-    let (manifest, program) = (
-        format!(in alloc; "{folder}-m")?,
-        format!(in alloc; "{folder}-p")?,
-    );
+    let process = std::process::id(rt.process());
+    Ok(Names {
+        disk: format!(in alloc; "/tmp/aurora-{process}-d")?,
+        out: format!(in alloc; "/tmp/aurora-{process}-o")?,
+        manifest: format!(in alloc; "/tmp/aurora-{process}-m")?,
+        program: format!(in alloc; "/tmp/aurora-{process}-p")?,
+    })
+}
+
+fn image(alloc: Global) -> Result<Vec<u8>, Fail> {
     let mut image = Vec::new(alloc);
     for word in WRITE_HI {
         image.extend_from_slice(&word.to_le_bytes())?;
     }
     image.extend_from_slice(b"hi\n")?;
-    fs::write(&rt, disk.as_str(), vec![in alloc; 0u8; 65_536]?)?;
-    fs::write(&rt, program.as_str(), image)?;
-    fs::write(
-        &rt,
-        manifest.as_str(),
-        format!(in alloc; "aurora 1\nflat {program}\n")?,
-    )?;
+    Ok(image)
+}
+
+/// A new disk, the program and its manifest.
+fn lay_files(rt: &HostRuntime, names: &Names) -> Result<(), Fail> {
+    let alloc = rt.alloc();
+    let program = names.program.as_str();
+    let manifest = format!(in alloc; "aurora 1\nflat {program}\n")?;
+    fs::write(rt, names.disk.as_str(), vec![in alloc; 0u8; 65_536]?)?;
+    fs::write(rt, program, image(alloc)?)?;
+    fs::write(rt, names.manifest.as_str(), manifest)?;
+    Ok(())
+}
+
+fn run(rt: &HostRuntime, names: &Names) -> Result<u8, Fail> {
+    let alloc = rt.alloc();
+    let (disk, out) = (names.disk.as_str(), names.out.as_str());
     let mut words = Vec::new(alloc);
-    for text in ["run", disk.as_str(), out.as_str(), manifest.as_str()] {
+    for text in ["run", disk, out, names.manifest.as_str()] {
         words.push(Word::new(alloc, text)?)?;
     }
-    assert_eq!(rt; run_on_files(&rt, &words, disk.as_str(), out.as_str())?, 0);
-    assert_eq!(rt; fs::read(&rt, out.as_str())?.as_slice(), b"hi\n".as_slice());
-    assert_eq!(rt; run_on_files(&rt, &words, disk.as_str(), out.as_str())?, 18);
-    for name in [&disk, &out, &manifest, &program] {
-        fs::remove_file(&rt, name.as_str())?;
+    Ok(run_on_files(rt, &words, disk, out)?)
+}
+
+fn remove_files(rt: &HostRuntime, names: &Names) -> Result<(), Fail> {
+    for name in [&names.disk, &names.out, &names.manifest, &names.program] {
+        fs::remove_file(rt, name.as_str())?;
     }
     Ok(())
+}
+
+/// Runs a program from real files twice: its output is in the file, and the disk has its checkpoint.
+#[test]
+fn runs_from_files(rt: HostRuntime) -> Result<(), Fail> {
+    let names = names(&rt)?;
+    lay_files(&rt, &names)?;
+    assert_eq!(rt; run(&rt, &names)?, 0);
+    let output = fs::read(&rt, names.out.as_str())?;
+    assert_eq!(rt; output.as_slice(), b"hi\n".as_slice());
+    assert_eq!(rt; run(&rt, &names)?, 18);
+    remove_files(&rt, &names)
 }

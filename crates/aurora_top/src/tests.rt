@@ -252,38 +252,52 @@ fn refusals(rt: HostRuntime) -> Result<(), Fail> {
     Ok(())
 }
 
+/// The first call alone.
+fn first(alloc: Global) -> Result<Vec<u64>, Fail> {
+    Ok(vec![in alloc; 1u64; 1]?)
+}
+
 #[test]
-fn faults(rt: HostRuntime) -> Result<(), Fail> {
+fn disk_faults(rt: HostRuntime) -> Result<(), Fail> {
     let alloc = rt.alloc();
-    let first = vec![in alloc; 1u64; 1]?;
     let files = files(alloc, FLAT_P, image(alloc, LOOP, b"")?)?;
-    let failing = disk(alloc, SIXTEEN)?.failing(first);
-    assert_eq!(rt;
-        end_of(run(alloc, RUN, files, failing, sink(alloc, b"")?)?),
-        End::DiskFault
-    );
-    let first = vec![in alloc; 1u64; 1]?;
-    let files = self::files(alloc, FLAT_P, image(alloc, LOOP, b"")?)?.failing(first);
-    assert_eq!(rt;
-        end_of(run(alloc, RUN, files, disk(alloc, SIXTEEN)?, sink(alloc, b"")?)?),
-        End::FilesFault
-    );
-    let first = vec![in alloc; 1u64; 1]?;
-    let files = self::files(alloc, FLAT_P, image(alloc, WRITE_HI, b"hi\n")?)?;
-    let out = sink(alloc, b"")?.failing(first);
-    assert_eq!(rt;
-        end_of(run(alloc, RUN, files, disk(alloc, SIXTEEN)?, out)?),
-        End::SinkFault
-    );
-    let files = self::files(alloc, FLAT_P, image(alloc, LOOP, b"")?)?;
+    let out = sink(alloc, b"")?;
+    let disk = disk(alloc, SIXTEEN)?.failing(first(alloc)?);
+    assert_eq!(rt; end_of(run(alloc, RUN, files, disk, out)?), End::DiskFault);
+    Ok(())
+}
+
+#[test]
+fn files_faults(rt: HostRuntime) -> Result<(), Fail> {
+    let alloc = rt.alloc();
+    let files = files(alloc, FLAT_P, image(alloc, LOOP, b"")?)?.failing(first(alloc)?);
+    let out = sink(alloc, b"")?;
+    let disk = disk(alloc, SIXTEEN)?;
+    assert_eq!(rt; end_of(run(alloc, RUN, files, disk, out)?), End::FilesFault);
+    Ok(())
+}
+
+#[test]
+fn sink_faults(rt: HostRuntime) -> Result<(), Fail> {
+    let alloc = rt.alloc();
+    let files = files(alloc, FLAT_P, image(alloc, WRITE_HI, b"hi\n")?)?;
+    let out = sink(alloc, b"")?.failing(first(alloc)?);
+    let disk = disk(alloc, SIXTEEN)?;
+    assert_eq!(rt; end_of(run(alloc, RUN, files, disk, out)?), End::SinkFault);
+    Ok(())
+}
+
+#[test]
+fn turns_are_spent(rt: HostRuntime) -> Result<(), Fail> {
+    let alloc = rt.alloc();
+    let files = files(alloc, FLAT_P, image(alloc, LOOP, b"")?)?;
+    let out = sink(alloc, b"")?;
+    let disk = disk(alloc, SIXTEEN)?;
     let spent = End::Spent {
         epoch: 1,
         turns: 8,
         output: 0,
     };
-    assert_eq!(rt;
-        end_of(run(alloc, RUN, files, disk(alloc, SIXTEEN)?, sink(alloc, b"")?)?),
-        spent
-    );
+    assert_eq!(rt; end_of(run(alloc, RUN, files, disk, out)?), spent);
     Ok(())
 }

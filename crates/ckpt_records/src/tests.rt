@@ -1,4 +1,4 @@
-use crate::{Meta, PagePlace, is_in_form, num_at, read_meta, write_meta};
+use crate::{PagePlace, is_in_form, num_at, read_meta, write_meta};
 use group_defs::{
     Frame, Mapping, Next, ObjectRec, Open, OpenKind, Out, Proc, ProcState, frame_valid,
 };
@@ -9,23 +9,32 @@ use std::test::Fail;
 /// How many blocks the disk of these tests has.
 const BLOCKS: u64 = 16;
 
-/// A process with `pages` pages of image, and its output.
-fn frame_of(alloc: Global, pages: u64, pc: u64, output: &[u8]) -> Result<Frame, Fail> {
-    let brk = 0x10000 + 4096 * pages;
-    let mapping = |start, pages, prot, object| Mapping {
+/// A private mapping of an object from its first page on.
+fn mapping(start: u64, pages: u64, prot: u8, object: u64) -> Mapping {
+    Mapping {
         start,
         pages,
         prot,
         shared: false,
         object,
         first: 0,
-    };
-    let open = |number, kind| Open {
+    }
+}
+
+/// A description without offset and flags.
+fn open(number: u64, kind: OpenKind) -> Open {
+    Open {
         number,
         kind,
         offset: 0,
         flags: 0,
-    };
+    }
+}
+
+/// A process with `pages` pages of image, and its output.
+fn frame_of(alloc: Global, pages: u8, pc: u64, output: &[u8]) -> Result<Frame, Fail> {
+    let pages = u64::from(pages);
+    let brk = 0x10000 + 4096 * pages;
     let maps = [
         mapping(0x10000, pages, 7, 0),
         mapping(0x3f_ffff_e000, 1, 3, 1),
@@ -75,9 +84,10 @@ fn frame_of(alloc: Global, pages: u64, pc: u64, output: &[u8]) -> Result<Frame, 
 }
 
 /// The first pages of object 0, in blocks from 2 on.
-fn first_pages(alloc: Global, count: u64) -> Result<Vec<PagePlace>, Fail> {
+fn first_pages(alloc: Global, count: u8) -> Result<Vec<PagePlace>, Fail> {
     let mut pages = Vec::new(alloc);
     for page in 0..count {
+        let page = u64::from(page);
         pages.push(PagePlace {
             object: 0,
             page,
@@ -94,96 +104,129 @@ fn spelled(alloc: Global, frame: &Frame, pages: &[PagePlace]) -> Result<Vec<u8>,
     Ok(write_meta(alloc, frame, pages)?)
 }
 
-fn read(alloc: Global, bytes: &[u8]) -> Result<Option<Meta>, Fail> {
-    Ok(read_meta(alloc, bytes, BLOCKS)?)
+/// The bytes with another number at a place.
+fn with_number(alloc: Global, bytes: &[u8], place: usize, number: u64) -> Result<Vec<u8>, Fail> {
+    if place > bytes.len() || bytes.len() - place < 8 {
+        return Err(Fail::new("no number stands there"));
+    }
+    let (front, rest) = bytes.split_at(place);
+    let (_, back) = rest.split_at(8);
+    let mut changed = front.to_vec(alloc)?;
+    changed.extend_from_slice(&number.to_le_bytes())?;
+    changed.extend_from_slice(back)?;
+    Ok(changed)
+}
+
+/// Whether the bytes spell nothing.
+fn is_nothing(alloc: Global, bytes: &[u8]) -> Result<bool, Fail> {
+    Ok(read_meta(alloc, bytes, BLOCKS)?.is_none())
+}
+
+/// The record of a process with 13 pages.
+fn thirteen(alloc: Global) -> Result<Vec<u8>, Fail> {
+    let frame = frame_of(alloc, 13, 0x10000, b"")?;
+    let pages = first_pages(alloc, 13)?;
+    spelled(alloc, &frame, &pages)
 }
 
 #[test]
 fn thirteen_pages_are_spelled_in_1008_bytes(rt: HostRuntime) -> Result<(), Fail> {
     let alloc = rt.alloc();
-    let frame = frame_of(alloc, 13, 0x10000, b"")?;
-    let bytes = spelled(alloc, &frame, &first_pages(alloc, 13)?)?;
+    let bytes = thirteen(alloc)?;
     assert_eq!(rt; bytes.len(), 1_008);
-    assert_eq!(rt; &bytes[..8], b"AURMETA1".as_slice());
+    assert_eq!(rt; num_at(&bytes, 0), Some(3_549_210_637_971_379_521));
     assert_eq!(rt; num_at(&bytes, 688), Some(13));
     assert_eq!(rt; num_at(&bytes, 1_001), None);
-    for length in 0..1_008 {
-        assert!(rt; read(alloc, &bytes[..length])?.is_none());
-    }
-    let mut longer = bytes.to_vec(alloc)?;
-    longer.push(0)?;
-    assert!(rt; read(alloc, &longer)?.is_none());
-    assert!(rt; read(alloc, &bytes)?.is_some());
+    assert!(rt; !is_nothing(alloc, &bytes)?);
     Ok(())
 }
 
 #[test]
+fn fewer_or_more_bytes_spell_nothing(rt: HostRuntime) -> Result<(), Fail> {
+    let alloc = rt.alloc();
+    let bytes = thirteen(alloc)?;
+    for length in 0..bytes.len() {
+        assert!(rt; is_nothing(alloc, &bytes[..length])?);
+    }
+    let mut longer = bytes;
+    longer.push(0)?;
+    assert!(rt; is_nothing(alloc, &longer)?);
+    Ok(())
+}
+
+/// Places of counts, a kind, a target, a state, a status, rights, a shared flag, a descriptor, pages and
+/// blocks, each with a number that can't stand there.
+const WRONG: &[(usize, u64)] = &[
+    (0, 0),
+    (56, 1),
+    (64, 1),
+    (64, 3),
+    (64, 1 << 61),
+    (104, 1),
+    (112, 1 << 61),
+    (120, 1),
+    (128, 1),
+    (128, 1 << 61),
+    (144, 7),
+    (152, 1),
+    (192, 1),
+    (216, 0),
+    (216, 2),
+    (240, 2),
+    (248, 5),
+    (528, 1),
+    (552, 256),
+    (560, 2),
+    (632, 4),
+    (640, 1),
+    (688, 12),
+    (688, 14),
+    (704, 13),
+    (712, 1),
+    (712, 16),
+    (720, 2),
+    (728, 0),
+];
+
+#[test]
 fn one_wrong_number_spells_nothing(rt: HostRuntime) -> Result<(), Fail> {
     let alloc = rt.alloc();
-    let frame = frame_of(alloc, 13, 0x10000, b"")?;
-    let bytes = spelled(alloc, &frame, &first_pages(alloc, 13)?)?;
-    // places of counts, a kind, a target, a state, a status, rights, a shared flag, a descriptor,
-    // a page and a block, each with a number that can't stand there
-    let wrong = [
-        (0, 0),
-        (56, 1),
-        (64, 1),
-        (64, 3),
-        (64, 1 << 61),
-        (104, 1),
-        (112, 1 << 61),
-        (120, 1),
-        (128, 1),
-        (128, 1 << 61),
-        (144, 7),
-        (152, 1),
-        (192, 1),
-        (216, 0),
-        (216, 2),
-        (240, 2),
-        (248, 5),
-        (528, 1),
-        (552, 256),
-        (560, 2),
-        (632, 4),
-        (640, 1),
-        (688, 12),
-        (688, 14),
-        (704, 13),
-        (712, 1),
-        (712, 16),
-        (720, 2),
-        (728, 0),
-    ];
-    for (place, number) in wrong {
-        let mut changed = bytes.to_vec(alloc)?;
-        let number: u64 = number;
-        changed[place..place + 8].copy_from_slice(&number.to_le_bytes());
-        assert!(rt; read(alloc, &changed)?.is_none(), "{number} at {place}");
+    let bytes = thirteen(alloc)?;
+    for (place, number) in WRONG {
+        let changed = with_number(alloc, &bytes, *place, *number)?;
+        assert!(rt; is_nothing(alloc, &changed)?);
     }
     Ok(())
+}
+
+/// Whether a record with these numbers is read again as it was written.
+fn is_read_again(
+    alloc: Global,
+    pages: u8,
+    listed: u8,
+    pc: u64,
+    output: &[u8],
+) -> Result<bool, Fail> {
+    let frame = frame_of(alloc, pages, pc, output)?;
+    let places = first_pages(alloc, listed)?;
+    let bytes = spelled(alloc, &frame, &places)?;
+    match read_meta(alloc, &bytes, BLOCKS)? {
+        None => Ok(false),
+        Some(meta) => {
+            let again = spelled(alloc, &meta.frame, meta.pages.as_slice())?;
+            Ok(again.as_slice() == bytes.as_slice())
+        }
+    }
 }
 
 #[test]
 fn what_is_written_is_read_again(rt: HostRuntime) -> Result<(), Fail> {
     let alloc = rt.alloc();
-    let mut seed: u64 = 20_261_130;
-    for _ in 0..50 {
-        seed = seed
-            .wrapping_mul(6_364_136_223_846_793_005)
-            .wrapping_add(1_442_695_040_888_963_407);
-        let pages = 1 + (seed >> 33) % 13;
-        let listed = (seed >> 41) % (pages + 1);
-        let output = [((seed >> 17) % 256) as u8; 40];
-        let output = &output[..(seed >> 50) as usize % 41];
-        let frame = frame_of(alloc, pages, (seed >> 7) / 4 * 4, output)?;
-        let bytes = spelled(alloc, &frame, &first_pages(alloc, listed)?)?;
-        match read(alloc, &bytes)? {
-            None => return Err(Fail::new("nothing was read")),
-            Some(meta) => {
-                assert_eq!(rt; meta.pages.len() as u64, listed);
-                assert_eq!(rt; spelled(alloc, &meta.frame, meta.pages.as_slice())?, bytes);
-            }
+    for pages in 1..14u8 {
+        for listed in 0..pages + 1 {
+            let pc = 4096 * u64::from(pages) + 4 * u64::from(listed);
+            let output = [listed; 40];
+            assert!(rt; is_read_again(alloc, pages, listed, pc, &output)?);
         }
     }
     Ok(())
