@@ -1,8 +1,8 @@
 use crate::run_on_files;
 use dev_traits::Word;
 use std::alloc::Global;
-use std::fs;
 use std::test::Fail;
+use std::{env, fs};
 
 /// Writes three bytes that stand behind it, and exits with 7.
 const WRITE_HI: [u32; 9] = [
@@ -26,14 +26,22 @@ struct Names {
     program: String,
 }
 
-fn names(rt: &HostRuntime) -> Result<Names, Fail> {
-    let alloc = rt.alloc();
+/// A file of this process's own, in the folder for files that don't last.
+fn path(rt: &HostRuntime, kind: &str) -> Result<String, Fail> {
     let process = std::process::id(rt.process());
+    let folder = env::temp_dir(rt)?;
+    match folder.to_str() {
+        Some(folder) => Ok(format!(in rt.alloc(); "{folder}/aurora-{process}-{kind}")?),
+        None => Err(Fail::new("the folder's name is no text")),
+    }
+}
+
+fn own_names(rt: &HostRuntime) -> Result<Names, Fail> {
     Ok(Names {
-        disk: format!(in alloc; "/tmp/aurora-{process}-d")?,
-        out: format!(in alloc; "/tmp/aurora-{process}-o")?,
-        manifest: format!(in alloc; "/tmp/aurora-{process}-m")?,
-        program: format!(in alloc; "/tmp/aurora-{process}-p")?,
+        disk: path(rt, "d")?,
+        out: path(rt, "o")?,
+        manifest: path(rt, "m")?,
+        program: path(rt, "p")?,
     })
 }
 
@@ -77,7 +85,7 @@ fn remove_files(rt: &HostRuntime, names: &Names) -> Result<(), Fail> {
 /// Runs a program from real files twice: its output is in the file, and the disk has its checkpoint.
 #[test]
 fn runs_from_files(rt: HostRuntime) -> Result<(), Fail> {
-    let names = names(&rt)?;
+    let names = own_names(&rt)?;
     lay_files(&rt, &names)?;
     assert_eq!(rt; run(&rt, &names)?, 0);
     let output = fs::read(&rt, names.out.as_str())?;
