@@ -2,7 +2,7 @@
 //!
 //! `read_meta` gives what the bytes spell, and nothing where they spell nothing; `write_meta` gives the one
 //! spelling. `specs/Holds` says which group the bytes of a whole disk hold: at most one. Below stand the
-//! types of groups and the chain of meta blocks; above, whatever restores or commits a group.
+//! types of groups, the chain of meta blocks and the layers of pages; above, whatever restores or commits a group.
 #![tactic(auto)]
 
 mod counted;
@@ -11,7 +11,10 @@ mod field;
 mod laws;
 mod meta;
 mod numbers;
+mod origin;
 mod parts;
+#[cfg(test)]
+mod random_tests;
 mod record;
 #[cfg(test)]
 mod tests;
@@ -20,4 +23,5 @@ pub use error::ReadError;
 pub use laws::{kept_is_held, one_held, written_is_held};
 pub use meta::{Meta, PagePlace};
 pub use numbers::num_at;
+pub use origin::{Ckpt, Frozen, Origin, Parts, Placement};
 pub use record::{is_in_form, read_meta, write_meta};

@@ -1,4 +1,5 @@
 use crate::{PagePlace, is_in_form, num_at, read_meta, write_meta};
+use ckpt_chain::{SlotBody, read_slot};
 use group_defs::{
     Frame, Mapping, Next, ObjectRec, Open, OpenKind, Out, Proc, ProcState, frame_valid,
 };
@@ -228,6 +229,57 @@ fn what_is_written_is_read_again(rt: HostRuntime) -> Result<(), Fail> {
             let output = [listed; 40];
             assert!(rt; is_read_again(alloc, pages, listed, pc, &output)?);
         }
+    }
+    Ok(())
+}
+
+/// Slot A open at epoch 1, whose record has 1,008 bytes from block 15 on: the gate byte, and bytes 8 to 39.
+const SLOT: &[u8] =
+    b"\x01\0\0\0\0\0\0\0AURSLOT1\x01\0\0\0\0\0\0\0\x0f\0\0\0\0\0\0\0\xf0\x03\0\0\0\0\0\0";
+
+#[test]
+fn a_slot_opens_the_record_of_thirteen_pages(rt: HostRuntime) -> Result<(), Fail> {
+    let alloc = rt.alloc();
+    let bytes = thirteen(alloc)?;
+    let mut block = SLOT.to_vec(alloc)?;
+    block.resize(4096, 0)?;
+    let body = SlotBody {
+        epoch: 1,
+        first: 15,
+        length: bytes.len() as u64,
+    };
+    assert_eq!(rt; block.len(), 4096);
+    assert_eq!(rt; read_slot(&block), Some(body));
+    Ok(())
+}
+
+/// Places of further lengths, each one off or far too great, and of numbers of four bytes, each too great.
+const FAR: &[(usize, u64)] = &[
+    (8, 1 << 32),
+    (56, 1 << 61),
+    (104, 1 << 61),
+    (112, 1),
+    (120, 1 << 61),
+    (128, 3),
+    (168, 1 << 32),
+    (216, 1 << 61),
+    (224, 1 << 32),
+    (232, 1 << 32),
+    (528, 3),
+    (528, 1 << 61),
+    (632, 2),
+    (632, 1 << 61),
+    (640, 1 << 32),
+    (688, 1 << 61),
+];
+
+#[test]
+fn one_length_off_spells_nothing(rt: HostRuntime) -> Result<(), Fail> {
+    let alloc = rt.alloc();
+    let bytes = thirteen(alloc)?;
+    for (place, number) in FAR {
+        let changed = with_number(alloc, &bytes, *place, *number)?;
+        assert!(rt; is_nothing(alloc, &changed)?, "{number} at {place}");
     }
     Ok(())
 }
