@@ -1,14 +1,13 @@
 -- Why commands are refused and runs end.
-use Rattle.std.proofs.Common.{◌≡◌, ℕ, ◌≤◌, List, None, [], ◌∷◌, IsTrue, sym, ◌∙◌, subst}
+use Rattle.std.proofs.Common.{◌≡◌, ℕ, List, None, IsTrue}
 use Rattle.std.specs.Option.{ForSome}
 use Rattle.dev_traits.specs.Disk.{DiskView}
-use Rattle.dev_traits.specs.Outside.{FilesView, SinkView}
+use Rattle.dev_traits.specs.Outside.{FilesView}
 use Rattle.ckpt_chain.specs.Slot.{newest}
 use Rattle.aurora_top.specs.declared.end.End.{End}
 use Rattle.aurora_top.specs.declared.end.End.TheVariants.{Done, Spent, Usage, NotBuilt, DiskFault, SinkFault, FilesFault, NoMemory}
 use Rattle.aurora_top.specs.Words.{is_run, manifest_of}
 use Rattle.aurora_top.specs.Refusals.{HasSize, Refused, RefusedByFiles}
-use Rattle.aurora_top.specs.Answers.{EndsFor, IsRunEnd}
 
 -- what the loading refuses, the command is refused for
 pub by_files : (words : List (List ℕ)) (disk disk' : DiskView) (files files' : FilesView) (count : ℕ) (end : End) → IsTrue (is_run words) → HasSize disk.blocks
@@ -21,14 +20,3 @@ by_files words disk disk' files files' count DiskFault run size unused why = abs
 by_files words disk disk' files files' count SinkFault run size unused why = absurd why
 by_files words disk disk' files files' count (Done epoch turns output) run size unused why = absurd why
 by_files words disk disk' files files' count (Spent epoch turns output) run size unused why = absurd why
-
--- a run that ended by itself met no fault
-pub ends_itself : (disk disk' : DiskView) (out out' : SinkView) (end : End) → IsRunEnd end → EndsFor disk disk' out out' end
-ends_itself disk disk' out out' (Done epoch turns output) is = tt
-ends_itself disk disk' out out' (Spent epoch turns output) is = tt
-ends_itself disk disk' out out' Usage is = absurd is
-ends_itself disk disk' out out' NotBuilt is = absurd is
-ends_itself disk disk' out out' DiskFault is = absurd is
-ends_itself disk disk' out out' SinkFault is = absurd is
-ends_itself disk disk' out out' FilesFault is = absurd is
-ends_itself disk disk' out out' NoMemory is = absurd is

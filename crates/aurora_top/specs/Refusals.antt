@@ -4,7 +4,7 @@ use Rattle.std.specs.Option.{ForSome}
 use Rattle.std.specs.List.{AllByRecursion}
 use Rattle.ckpt_chain.specs.Slot.{newest}
 use Rattle.dev_traits.specs.Counts.{Rose}
-use Rattle.dev_traits.specs.Disk.{DiskView, OnlyReading}
+use Rattle.dev_traits.specs.Disk.{DiskView, LeftNow, OnlyReading}
 use Rattle.dev_traits.specs.Outside.{FilesView}
 use Rattle.aurora_top.specs.Words.{is_run, manifest_of}
 use Rattle.aurora_top.specs.declared.end.End.{End}
@@ -33,20 +33,21 @@ pub record NamesImage (held : List ℕ → Option (List ℕ)) (word image : List
   pub there : held name ≡ Some image
   pub size : (1 ≤ length image) × (length image ≤ 4096)
 
--- A command is run: the disk has a size that it may have and no open slot, the manifest names an image, and the
--- output is empty.
+-- The tests of a command find nothing: the disk has a size that it may have and no open slot, the manifest names an
+-- image, and the output is empty.
 pub record IsRunnable (blocks : ℕ) (disk : List ℕ) (held : List ℕ → Option (List ℕ)) (word : List ℕ) (count : ℕ) : Type 0 where
   pub size : HasSize blocks
   pub unused : newest disk ≡ None
   pub named : (image : List ℕ) × NamesImage held word image
   pub empty : count ≡ 0
 
--- The same, as far as the disk and the files tell what they have.
-pub record Runs (words : List (List ℕ)) (disk : DiskView) (files : FilesView) (count : ℕ) : Type 0 where
+-- The same of this image, as far as the disk and the files tell what they have.
+pub record Runs (words : List (List ℕ)) (disk : DiskView) (files : FilesView) (image : List ℕ) (count : ℕ) : Type 0 where
   pub command : IsTrue (is_run words)
   pub size : HasSize disk.blocks
   pub unused : ForSome disk.reading (λ r. newest r ≡ None)
-  pub named : ForSome files.contents (λ held. (image : List ℕ) × NamesImage held (manifest_of words) image)
+  pub named : ForSome files.contents (λ held. NamesImage held (manifest_of words) image)
+  pub image_size : (1 ≤ length image) × (length image ≤ 4096)
   pub empty : count ≡ 0
 
 -- Why a command was refused before its run: the devices before and after.
@@ -64,12 +65,13 @@ Refused words disk disk' files files' count SinkFault = ⊥
 Refused words disk disk' files files' count (Done epoch turns output) = ⊥
 Refused words disk disk' files files' count (Spent epoch turns output) = ⊥
 
--- nothing was written
+-- Nothing was written, and a stop since then leaves nothing that it couldn't leave before.
 pub record IsUnwritten (before after : DiskView) : Type 0 where
   pub blocks : after.blocks ≡ before.blocks
   pub reading : after.reading ≡ before.reading
   pub writes : after.writes ≡ before.writes
   pub later : before.faults ≤ after.faults
+  pub left : (image : List ℕ) → after.left before.moment image → LeftNow before image
 
 -- the opening: no slot is open, and whether the gate byte of slot A reads 1
 abbrev pub IsOpened : Bool → DiskView → DiskView → Type 0

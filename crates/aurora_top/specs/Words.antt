@@ -1,5 +1,5 @@
 -- The words of a command. A word is the list of its bytes.
-use Rattle.std.specs.Prelude.{ℕ, Bool, true, false, not, ◌&&◌, ◌==◌, List, [], ◌∷◌, bytes_eq, codes}
+use Rattle.std.specs.Prelude.{ℕ, Bool, false, not, ◌&&◌, ◌==◌, List, [], ◌∷◌, bytes_eq, codes}
 
 -- a word that names a file isn't empty, and doesn't begin with `-`
 abbrev pub is_name : List ℕ → Bool

@@ -11,7 +11,7 @@ use lists::Seq;
 pub enum End {
     /// No process is running, and all is on the disk and released.
     Done { epoch: u64, turns: u64, output: u64 },
-    /// All turns are made, and a process is running.
+    /// All turns are made, and the group is neither done nor stuck.
     Spent { epoch: u64, turns: u64, output: u64 },
     /// The words aren't this call's.
     Usage,

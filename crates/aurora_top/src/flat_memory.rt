@@ -1,7 +1,7 @@
 //! The private memory of a flat process.
-ghost use Rattle.std.specs.Prelude.{◌≡◌, ◌<◌, ◌≤◌, ◌+◌, ◌*◌, ◌^◌, ℕ, List, length, IfSome};
+ghost use Rattle.std.specs.Prelude.{◌≡◌, ◌<◌, ◌≤◌, ◌+◌, ◌-◌, ◌*◌, ◌^◌, ℕ, List, drop, length, take, IfNone, IfSome};
 ghost use Rattle.std.specs.Option.{option_map};
-ghost use Rattle.rv64_isa.specs.Memory.{byte_with, bytes_with, stored};
+ghost use Rattle.rv64_isa.specs.Memory.{byte_with, bytes_with, readable, stored};
 ghost use Rattle.rv64_isa.specs.Numbers.{number_of};
 ghost use Rattle.aurora_top.specs.Memory.{flat_cells, IsWithin};
 
@@ -17,12 +17,12 @@ pub const STACK_START: u64 = 0x3f_ffff_e000;
 pub const STACK_TOP: u64 = 0x3f_ffff_f000;
 
 /// The image from 0x10000 on, with all rights, and one page of stack below 0x3ffffff000 that can be read and
-/// written. Each is one object of whole pages.
+/// written. Each is one object of one page.
 #[derive(Drop)]
 pub struct FlatMemory {
     pub image: Vec<u8>,
     pub stack: Vec<u8>,
-    pub ghost image_size: { length image.items ≤ 2 ^ 24 },
+    pub ghost image_size: { length image.items ≡ 4096 },
     pub ghost stack_size: { length stack.items ≡ 4096 },
 }
 
@@ -72,27 +72,33 @@ impl FlatMemory {
 
     /// The n bytes from an address on, where all of them can be read.
     pub fn readable(&self, address: u64, n: u64) -> Option<&[u8]>
-        ensures { IfSome result (λ bytes. length bytes.now ≡ n) }
+        requires { 1 ≤ n }
+        ensures bytes { option_map (λ b. b.now) result ≡ readable (flat_cells self.now.image.items self.now.stack.items) address n }
+        ensures size { IfSome result (λ b. length b.now ≡ n) }
+        ensures short { IfSome result (λ b. length b.now ≤ 4096) }
     {
-        if IMAGE_START <= address {
-            if let Some(bytes) = part_of(&self.image, address - IMAGE_START, n) {
-                return Some(bytes);
-            }
+        match part_of(&self.image, IMAGE_START, address, n) {
+            Some(bytes) => Some(bytes),
+            None => part_of(&self.stack, STACK_START, address, n),
         }
-        if STACK_START <= address {
-            return part_of(&self.stack, address - STACK_START, n);
-        }
-        None
     }
 }
 
-// The n bytes from a place on, where the list has them.
-fn part_of(bytes: &[u8], place: u64, n: u64) -> Option<&[u8]>
-    ensures { IfSome result (λ part. length part.now ≡ n) }
+// The n bytes from an address on, where the piece that starts at `start` has them all.
+fn part_of(piece: &[u8], start: u64, address: u64, n: u64) -> Option<&[u8]>
+    ensures from { IfSome result (λ part. start ≤ address) }
+    ensures to { IfSome result (λ part. address + n ≤ start + length piece.now) }
+    ensures bytes { IfSome result (λ part. part.now ≡ take n (drop (address - start) piece.now)) }
+    ensures size { IfSome result (λ part. length part.now ≡ n) }
+    ensures none { IfNone result (start ≤ address → start + length piece.now < address + n) }
 {
-    let size = bytes.len() as u64;
+    if address < start {
+        return None;
+    }
+    let place = address - start;
+    let size = piece.len() as u64;
     if place <= size && n <= size - place {
-        Some(&bytes[place as usize..(place + n) as usize])
+        Some(&piece[place as usize..(place + n) as usize])
     } else {
         None
     }

@@ -5,14 +5,17 @@
 //! traits, the group's types, the local step, the record of a checkpoint and the commit stand below.
 #![tactic(auto)]
 
+mod boot;
 mod calls;
 mod end;
 mod engine;
 mod flat_group;
 mod flat_memory;
 mod frozen;
+mod log;
 mod manifest;
 mod opening;
+mod persisting;
 mod placement;
 mod plan;
 mod release;
@@ -24,5 +27,7 @@ pub use end::{End, Ending, status_of};
 pub use solo::aurora_solo;
 pub use words::{Mode, mode_of};
 
+#[cfg(test)]
+mod stops;
 #[cfg(test)]
 mod tests;

@@ -1,9 +1,11 @@
 //! The opening of a disk: one sync, and both slots.
-ghost use Rattle.std.specs.Prelude.{◌≡◌, ◌≤◌, ◌+◌, ◌*◌, ◌↔◌, IsTrue, IsErr, IfOk, IfErr, slice_index};
+ghost use Rattle.std.specs.Prelude.{◌≡◌, ◌≤◌, ◌+◌, ◌*◌, ◌↔◌, None, IsTrue, IsErr, IfOk, IfErr, OnOk, slice_index};
 ghost use Rattle.std.specs.Option.{ForSome};
 ghost use Rattle.dev_traits.specs.Counts.{HasCause};
 ghost use Rattle.dev_traits.specs.Disk.{OnlyReading};
+ghost use Rattle.ckpt_chain.specs.Reads.{OnlyReads};
 ghost use Rattle.ckpt_chain.specs.Slot.{open_body};
+ghost use Rattle.aurora_top.specs.Opening.{IsBetween, IsOpenedSince};
 ghost use Rattle.aurora_top.specs.Refusals.{IsUnwritten, IsOpened, RefusedByDisk};
 
 use crate::end::End;
@@ -17,7 +19,7 @@ fn read_one<D: Disk>(disk: &mut D, place: u64) -> Result<(Option<SlotBody>, bool
     ensures slot { IfOk result (λ s. ForSome (D.view disk.old).reading (λ r. s.0 ≡ open_body r place)) }
     ensures gate { IfOk result (λ s. ForSome (D.view disk.old).reading (λ r. IsTrue s.1 ↔ (slice_index r place ≡ 1))) }
     ensures only { OnlyReading (D.view disk.new) }
-    ensures same { IsUnwritten (D.view disk.old) (D.view disk.new) }
+    ensures reads { OnlyReads (D.view disk.old) (D.view disk.new) }
     ensures faults { HasCause (D.view disk.old).faults (D.view disk.new).faults (IsErr result) }
 {
     let mut bytes = [0u8; 4096];
@@ -33,7 +35,7 @@ fn read_slots<D: Disk>(disk: &mut D) -> Result<bool, End>
     requires only { OnlyReading (D.view disk.old) }
     ensures ok { IfOk result (λ gate. IsOpened gate (D.view disk.old) (D.view disk.new)) }
     ensures err { IfErr result (λ e. RefusedByDisk (D.view disk.old) (D.view disk.new) e) }
-    ensures same { IsUnwritten (D.view disk.old) (D.view disk.new) }
+    ensures reads { OnlyReads (D.view disk.old) (D.view disk.new) }
 {
     let (a, gate) = match read_one(disk, 0) {
         Ok(read) => read,
@@ -53,8 +55,11 @@ fn read_slots<D: Disk>(disk: &mut D) -> Result<bool, End>
 /// which the sync answered Ok.
 pub fn open_disk<D: Disk>(disk: &mut D, opened_at: &mut Option<u64>) -> Result<bool, End>
     requires sized { 2 ≤ (D.view disk.old).blocks }
+    requires untold { opened_at.old ≡ None }
     ensures ok { IfOk result (λ gate. IsOpened gate (D.view disk.old) (D.view disk.new)) }
     ensures err { IfErr result (λ e. RefusedByDisk (D.view disk.old) (D.view disk.new) e) }
+    ensures between { IsBetween opened_at.new (D.view disk.old) (D.view disk.new) }
+    ensures opening { OnOk result (IsOpenedSince opened_at.new (D.view disk.old) (D.view disk.new)) }
     ensures same { IsUnwritten (D.view disk.old) (D.view disk.new) }
 {
     if disk.sync().is_err() {

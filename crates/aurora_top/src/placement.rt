@@ -1,11 +1,15 @@
 //! Where pages of a checkpoint go.
+ghost use Rattle.std.specs.Prelude.{◌≡◌, [], ◌∷◌, map, IfOk, OnOk};
+ghost use Rattle.aurora_top.specs.Placing.{Adds, ArePlaced, is_zero as all_zero, pages_in, pages_of};
 
 use ckpt_records::PagePlace;
 use commit_gate::Block;
 use lists::{NoMemory, Seq};
 use std::alloc::Global;
 
-fn is_zero(page: &[u8]) -> bool {
+fn is_zero(page: &[u8]) -> bool
+    ensures { result ≡ all_zero page.now }
+{
     page.iter().all(|b| *b == 0)
 }
 
@@ -26,7 +30,9 @@ impl Placed {
         object: u64,
         page: u64,
         bytes: &[u8],
-    ) -> Result<(), NoMemory> {
+    ) -> Result<(), NoMemory>
+        ensures { OnOk result (Adds (record { object = object; page = page; bytes = bytes.now } ∷ []) self.old self.new) }
+    {
         let block = FIRST_BLOCK + self.blocks.len() as u64;
         self.pages.push(PagePlace {
             object,
@@ -41,7 +47,9 @@ impl Placed {
     }
 
     // Adds the pages of an object that aren't all zero.
-    fn add_object(&mut self, alloc: Global, object: u64, bytes: &[u8]) -> Result<(), NoMemory> {
+    fn add_object(&mut self, alloc: Global, object: u64, bytes: &[u8]) -> Result<(), NoMemory>
+        ensures { OnOk result (Adds (pages_of (object, bytes.now)) self.old self.new) }
+    {
         for page in 0..bytes.len() / 4096 {
             let bytes = &bytes[4096 * page..4096 * page + 4096];
             if !is_zero(bytes) {
@@ -53,7 +61,9 @@ impl Placed {
 }
 
 /// The pages that aren't all zero, by object and then page, in the lowest blocks.
-pub fn place_pages(alloc: Global, memory: &[(u64, Vec<u8>)]) -> Result<Placed, NoMemory> {
+pub fn place_pages(alloc: Global, memory: &[(u64, Vec<u8>)]) -> Result<Placed, NoMemory>
+    ensures { IfOk result (λ placed. ArePlaced (pages_in (map (λ o. (o.0, o.1.items)) memory.now)) placed) }
+{
     let mut placed = Placed {
         blocks: Vec::new(alloc),
         pages: Vec::new(alloc),

@@ -1,11 +1,14 @@
 //! What stands before a run: the tests of the command, the disk, the manifest and the output.
-ghost use Rattle.std.specs.Prelude.{◌≡◌, ◌≤◌, ◌↔◌, IsTrue, List, ℕ, IfOk, IfErr, slice_index};
+ghost use Rattle.std.specs.Prelude.{◌≡◌, ◌≤◌, ◌↔◌, None, IsTrue, IfOk, IfErr, OnOk, slice_index};
 ghost use Rattle.std.specs.Option.{ForSome};
 ghost use Rattle.dev_traits.specs.Disk.{OnlyReading};
-ghost use Rattle.aurora_top.specs.Refusals.{HasSize, NamesImage, RefusedByFiles, Refused, Runs, IsUnwritten};
+ghost use Rattle.aurora_top.specs.Opening.{IsBetween, IsOpenedSince};
+ghost use Rattle.aurora_top.specs.Refusals.{HasSize, RefusedByFiles, Refused, IsUnwritten};
+ghost use Rattle.aurora_top.specs.Starting.{IsBooted, IsStarted};
 
+use crate::boot::first_group;
 use crate::end::End;
-use crate::flat_group::{FlatGroup, first_group};
+use crate::flat_group::FlatGroup;
 use crate::manifest::load;
 use crate::opening::open_disk;
 use crate::words::{is_run, manifest_of};
@@ -29,7 +32,7 @@ fn has_size(blocks: u64) -> bool
 
 /// The first group of the manifest's image.
 fn boot<F: Files>(alloc: Global, files: &mut F, manifest: &str) -> Result<FlatGroup, End>
-    ensures ok { IfOk result (λ group. ForSome (F.view files.old).contents (λ held. (image : List ℕ) × NamesImage held manifest.now image)) }
+    ensures ok { IfOk result (λ group. IsBooted (F.view files.old) manifest.now group) }
     ensures err { IfErr result (λ e. RefusedByFiles manifest.now (F.view files.old) (F.view files.new) e) }
     ensures contents { (F.view files.new).contents ≡ (F.view files.old).contents }
     ensures later { (F.view files.old).faults ≤ (F.view files.new).faults }
@@ -53,7 +56,10 @@ pub fn prepare<F: Files, D: Disk, O: Sink>(
     out: &O,
     opened_at: &mut Option<u64>,
 ) -> Result<Start, End>
-    ensures ok { IfOk result (λ start. Runs words.now (D.view disk.old) (F.view files.old) (O.view out.now).count) }
+    requires { opened_at.old ≡ None }
+    ensures ok { IfOk result (λ start. IsStarted words.now (D.view disk.old) (F.view files.old) (O.view out.now).count start.group) }
+    ensures opening { OnOk result (IsOpenedSince opened_at.new (D.view disk.old) (D.view disk.new)) }
+    ensures between { IsBetween opened_at.new (D.view disk.old) (D.view disk.new) }
     ensures only { IfOk result (λ start. OnlyReading (D.view disk.new)) }
     ensures gate { IfOk result (λ start. ForSome (D.view disk.old).reading (λ r. IsTrue start.close ↔ (slice_index r 0 ≡ 1))) }
     ensures err { IfErr result (λ e. Refused words.now (D.view disk.old) (D.view disk.new) (F.view files.old) (F.view files.new) (O.view out.now).count e) }

@@ -1,4 +1,4 @@
-use Rattle.std.proofs.Common.{◌≡◌, List, ℕ, Bool, Option, ◌∙◌, sym}
+use Rattle.std.proofs.Common.{◌≡◌, Bool, ◌∙◌}
 use Rattle.std.specs.Prelude.{Result, Ok, Err, IfOk}
 use Rattle.dev_traits.specs.Disk.{DiskView}
 use Rattle.aurora_top.specs.Refusals.{IsOpened}

@@ -1,4 +1,4 @@
-use Rattle.std.proofs.Common.{◌≡◌, ◌+◌, ◌-◌, ◌≤◌, List, ℕ, subst, take, drop, length, length-take, length-drop, arith}
+use Rattle.std.proofs.Common.{◌+◌, ◌-◌, List, ℕ, subst, take, drop, length, length-take, length-drop, arith}
 use Rattle.std.proofs.lemmas.List.{take_rest}
 use Rattle.dev_traits.specs.Outside.{Takes}
 use Rattle.aurora_top.proofs.Pieces.{take_plus, takes_both, takes_none}

@@ -1,5 +1,5 @@
-use Rattle.std.proofs.Common.{◌≡◌, IsTrue, ◌∙◌, sym, subst, List, ℕ, rules}
-use Rattle.aurora_top.specs.Words.{is_run, manifest_of}
+use Rattle.std.proofs.Common.{IsTrue, ◌∙◌, sym, subst, List, ℕ, rules}
+use Rattle.aurora_top.specs.Words.{is_run}
 use Rattle.aurora_top.specs.Refusals.{HasSize, NamesImage, RefusedByFiles}
 use Rattle.aurora_top.proofs.Reasons.{by_files}
 use Rattle.aurora_top.proofs.starting.prepare.Goals as goal
@@ -16,10 +16,16 @@ pub returns-clause-ok : goal.returns-clause-ok
 returns-clause-ok g c =
     let run : IsTrue (is_run c.args.words.now) = search rules in
     let size : HasSize (g.D.Disk.view c.args.disk.now).blocks = search rules in
+    let booted = c.in-Ok-boot.ensures.ok in
     record {
-      command = run;
-      size = size;
-      unused = λ r told. (c.in-Ok.ensures.ok.1 r told).0;
-      named = λ held told. subst (λ (w : List ℕ). (image : List ℕ) × NamesImage held w image) c.manifest_of.ensures (c.in-Ok-boot.ensures.ok held told);
-      empty = sym c.taken.ensures ∙ c.if-taken-ne0.false;
+      image = booted.image;
+      runs = record {
+        command = run;
+        size = size;
+        unused = λ r told. (c.in-Ok.ensures.ok.1 r told).0;
+        named = λ held told. subst (λ (w : List ℕ). NamesImage held w booted.image) c.manifest_of.ensures (booted.named held told);
+        image_size = booted.size;
+        empty = sym c.taken.ensures ∙ c.if-taken-ne0.false;
+      };
+      first = booted.first;
     }

@@ -1,0 +1,249 @@
+//! Stops at any call of the disk, and calls that fail: what an image then holds, by a reader of its own.
+use crate::{Ending, aurora_solo};
+use dev_traits::mem::{Fill, MemDisk, MemFiles, MemSink};
+use dev_traits::{Disk, Word};
+use group_defs::Mark;
+use std::alloc::Global;
+use std::test::Fail;
+
+/// What a run leaves: its disk, its output, and whether its barrier was acknowledged.
+#[derive(Drop)]
+struct Remains {
+    disk: MemDisk,
+    out: MemSink,
+    acked: bool,
+}
+
+/// Writes three bytes that stand behind it, and exits with 7.
+const WRITE_HI: &[u32] = &[
+    0x0001_05b7,
+    0x0245_8593,
+    0x0010_0513,
+    0x0030_0613,
+    0x0400_0893,
+    0x0000_0073,
+    0x0070_0513,
+    0x05d0_0893,
+    0x0000_0073,
+];
+
+const FILLS: [Fill; 5] = [
+    Fill::Old,
+    Fill::New,
+    Fill::Byte(0),
+    Fill::Byte(1),
+    Fill::Byte(255),
+];
+
+/// The calls of a run in which none fails: a sync and two reads, the meta block, a sync, the slot's body, a sync, the
+/// gate, and a sync.
+const CALLS: u64 = 9;
+
+fn image(alloc: Global) -> Result<Vec<u8>, Fail> {
+    let mut bytes = Vec::new(alloc);
+    for word in WRITE_HI {
+        bytes.extend_from_slice(&word.to_le_bytes())?;
+    }
+    bytes.extend_from_slice(b"hi\n")?;
+    Ok(bytes)
+}
+
+fn files(alloc: Global) -> Result<MemFiles, Fail> {
+    let mut list = Vec::new(alloc);
+    let manifest = b"aurora 1\nflat p\n".as_slice();
+    list.push((Word::new(alloc, "m")?, manifest.to_vec(alloc)?))?;
+    list.push((Word::new(alloc, "p")?, image(alloc)?))?;
+    Ok(MemFiles::of(alloc, list))
+}
+
+fn words(alloc: Global) -> Result<Vec<Word>, Fail> {
+    let mut list = Vec::new(alloc);
+    for text in ["run", "d", "o", "m"] {
+        list.push(Word::new(alloc, text)?)?;
+    }
+    Ok(list)
+}
+
+/// Sixteen blocks of zeros, whose call of this number fails.
+fn disk(alloc: Global, failing: u64) -> Result<MemDisk, Fail> {
+    let disk = MemDisk::of(alloc, vec![in alloc; 0u8; 65_536]?, 100)?;
+    Ok(disk.failing(vec![in alloc; failing]?))
+}
+
+fn sink(alloc: Global) -> Result<MemSink, Fail> {
+    Ok(MemSink::of(alloc, Vec::new(alloc), 1000)?)
+}
+
+fn remains_of(run: Ending<MemFiles, MemDisk, MemSink, MemSink>) -> Remains {
+    let Ending {
+        status: _,
+        end: _,
+        origin_epoch: _,
+        opened_at: _,
+        trace,
+        acks: _,
+        files: _,
+        disk,
+        out,
+        say: _,
+    } = run;
+    let acked = trace.as_slice().contains(&Mark::Ack { epoch: 1 });
+    Remains { disk, out, acked }
+}
+
+/// What the run leaves in which the disk's call of this number fails.
+fn run_failing(alloc: Global, call: u64) -> Result<Remains, Fail> {
+    let words = words(alloc)?;
+    let files = files(alloc)?;
+    let disk = disk(alloc, call)?;
+    let out = sink(alloc)?;
+    let say = sink(alloc)?;
+    Ok(remains_of(aurora_solo(alloc, &words, files, disk, out, say)))
+}
+
+/// The eight bytes from a place on, as a number.
+fn number_at(bytes: &[u8], place: usize) -> Option<u64> {
+    match bytes.get(place..)? {
+        [a, b, c, d, e, f, g, h, ..] => {
+            Some(u64::from_le_bytes([*a, *b, *c, *d, *e, *f, *g, *h]))
+        }
+        _ => None,
+    }
+}
+
+fn block_at(image: &[u8], number: u64) -> Option<&[u8]> {
+    let place = number.checked_mul(4096)?;
+    image.get(place as usize..)?.get(..4096)
+}
+
+/// The first meta block and the length of slot A's checkpoint, where the slot has the text and epoch 1.
+fn slot_a(image: &[u8]) -> Option<(u64, u64)> {
+    let slot = block_at(image, 0)?;
+    let is_named = slot.get(8..16) == Some(b"AURSLOT1".as_slice())
+        && number_at(slot, 16) == Some(1);
+    if is_named {
+        Some((number_at(slot, 24)?, number_at(slot, 32)?))
+    } else {
+        None
+    }
+}
+
+/// The payloads of a chain of meta blocks, one after another.
+fn payloads(alloc: Global, image: &[u8], first: u64) -> Result<Vec<u8>, Fail> {
+    let mut bytes = Vec::new(alloc);
+    let mut next = first;
+    for _ in 0..14 {
+        if next >= 2 {
+            let block = block_at(image, next).unwrap_or(&[]);
+            bytes.extend_from_slice(block.get(8..).unwrap_or(&[]))?;
+            next = number_at(block, 0).unwrap_or(0);
+        }
+    }
+    Ok(bytes)
+}
+
+/// The record of the group that the program leaves: its output, and no process.
+fn record_left(alloc: Global) -> Result<Vec<u8>, Fail> {
+    let mut bytes = Vec::new(alloc);
+    bytes.extend_from_slice(b"AURMETA1")?;
+    for number in [2u64, 2, 2, 0, 0, 0, 3] {
+        bytes.extend_from_slice(&number.to_le_bytes())?;
+    }
+    bytes.extend_from_slice(b"hi\n")?;
+    bytes.extend_from_slice(&[0; 56])?;
+    Ok(bytes)
+}
+
+/// What an image holds.
+#[derive(Clone, Copy, Debug, PartialEq, Eq)]
+enum Held {
+    /// No slot is open.
+    Nothing,
+    /// The whole group that the program leaves.
+    Group,
+    Other,
+}
+
+fn is_gate_open(image: &[u8], place: usize) -> bool {
+    image.get(place) == Some(&1)
+}
+
+fn held_by(alloc: Global, image: &[u8]) -> Result<Held, Fail> {
+    if is_gate_open(image, 4096) {
+        return Ok(Held::Other);
+    }
+    if !is_gate_open(image, 0) {
+        return Ok(Held::Nothing);
+    }
+    let Some((first, length)) = slot_a(image) else {
+        return Ok(Held::Other);
+    };
+    let payloads = payloads(alloc, image, first)?;
+    let record = record_left(alloc)?;
+    if length == record.len() as u64 && payloads.starts_with(&record) {
+        Ok(Held::Group)
+    } else {
+        Ok(Held::Other)
+    }
+}
+
+/// The gate's write, the eighth call, opens the slot where the byte 1 gets there.
+fn wanted(call: u64, fill: Fill) -> Held {
+    if call >= 8 && (fill == Fill::New || fill == Fill::Byte(1)) {
+        Held::Group
+    } else {
+        Held::Nothing
+    }
+}
+
+/// Whether a stop within a call leaves what is wanted, whatever stands in the ranges that are pending.
+fn stops_as_wanted(alloc: Global, disk: &MemDisk, call: u64) -> Result<bool, Fail> {
+    let mut all = call >= 1 && call <= disk.moment();
+    for fill in FILLS {
+        if call >= 1 && call <= disk.moment() {
+            let image = disk.image(alloc, call, fill)?;
+            let held = held_by(alloc, &image)?;
+            all = all && held == wanted(call, fill);
+        }
+    }
+    Ok(all)
+}
+
+#[test]
+fn a_stop_leaves_nothing_or_the_whole_group(rt: HostRuntime) -> Result<(), Fail> {
+    let alloc = rt.alloc();
+    let left = run_failing(alloc, 0)?;
+    assert_eq!(rt; left.disk.moment(), CALLS);
+    for call in 1..CALLS + 1 {
+        assert!(rt; stops_as_wanted(alloc, &left.disk, call)?);
+    }
+    assert_eq!(rt; held_by(alloc, left.disk.bytes())?, Held::Group);
+    Ok(())
+}
+
+#[test]
+fn a_stop_at_a_failed_call_leaves_nothing_or_the_whole_group(rt: HostRuntime) -> Result<(), Fail> {
+    let alloc = rt.alloc();
+    for call in 1..CALLS + 1 {
+        let left = run_failing(alloc, call)?;
+        assert_eq!(rt; left.disk.moment(), call);
+        assert!(rt; stops_as_wanted(alloc, &left.disk, call)?);
+    }
+    Ok(())
+}
+
+#[test]
+fn output_waits_for_the_acknowledgement(rt: HostRuntime) -> Result<(), Fail> {
+    let alloc = rt.alloc();
+    for call in 0..CALLS + 1 {
+        let left = run_failing(alloc, call)?;
+        assert_eq!(rt; left.acked, call == 0);
+        let covered = if left.acked {
+            b"hi\n".as_slice()
+        } else {
+            b"".as_slice()
+        };
+        assert_eq!(rt; left.out.bytes(), covered);
+    }
+    Ok(())
+}
