@@ -1,0 +1,4 @@
+pub mod Parts
+pub mod Layers
+pub mod Meta
+pub mod Outcome
