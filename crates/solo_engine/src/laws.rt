@@ -1,0 +1,25 @@
+//! What commits leave, whatever is kept.
+ghost use Rattle.std.specs.Prelude.{◌≡◌, ◌⊎◌, ◌<◌, ◌≤◌, ◌*◌, ◌^◌, ℕ, List, length, Some};
+ghost use Rattle.group_defs.specs.Group.{Group};
+ghost use Rattle.ckpt_chain.specs.Slot.{newest};
+ghost use Rattle.ckpt_chain.specs.declared.slot.SlotBody.{SlotBody};
+ghost use Rattle.commit_gate.specs.Whole.{IsUnfinished, finished};
+ghost use Rattle.commit_gate.specs.declared.whole.Block.{Block};
+ghost use Rattle.solo_engine.specs.Keeping.{Kept, Keeps, Avoids, IsSoundAfter, KeepsOrHolds, target_after, epoch_after};
+
+/// An image of a commit that isn't done keeps what was kept, where the commit's blocks aren't used by that. At every moment
+/// of the commit of a sound plan an image keeps that, or holds the next epoch and the plan's group.
+pub fn commits_keep_or_replace()
+    ensures unfinished { (count : ℕ) (kept : Kept) (blocks : List Block) (r image : List ℕ) → length r ≡ 4096 * count → Keeps r kept → Avoids count kept blocks
+        → IsUnfinished (target_after kept) blocks r image → Keeps image kept }
+    ensures during { (count : ℕ) (kept : Kept) (h : Group) (blocks : List Block) (body : SlotBody) (r image : List ℕ) → length r ≡ 4096 * count → Keeps r kept → Avoids count kept blocks
+        → IsSoundAfter count kept h blocks body
+        → IsUnfinished (target_after kept) blocks r image ⊎ (image ≡ finished (target_after kept) blocks body r) → KeepsOrHolds kept h image }
+{}
+
+/// After a commit its slot is the newest open one, with its body.
+pub fn committed_slot_is_newest()
+    ensures { (count : ℕ) (kept : Kept) (blocks : List Block) (body : SlotBody) (r : List ℕ) → 16 ≤ count → length r ≡ 4096 * count → Keeps r kept → Avoids count kept blocks
+        → body.epoch ≡ epoch_after kept → body.epoch < 2 ^ 64 → body.first < 2 ^ 64 → body.length < 2 ^ 64
+        → newest (finished (target_after kept) blocks body r) ≡ Some (target_after kept, body) }
+{}
