@@ -11,6 +11,8 @@ use Rattle.group_defs.specs.declared.run.Mark.TheVariants.{Fetch, Ack}
 use Rattle.group_defs.specs.Ends.{IsDone, IsStuck, IsSpent}
 use Rattle.group_defs.specs.Group.{Group, is_running}
 use Rattle.group_defs.specs.Legal.{Legal}
+use Rattle.group_defs.specs.Solo.{InOrderAfter, IsSoloSoFar, IsSoloPrefix}
+use Rattle.group_defs.proofs.SoloGoesOn.{goes_to_its_end}
 use Rattle.group_defs.specs.Trace.{barrier, group_after, group_of, is_barrier_of, output}
 use Rattle.ckpt_chain.specs.Slot.{newest}
 use Rattle.aurora_top.specs.Answers.{WasRun, HasRun, EndsFor, flat_run}
@@ -30,11 +32,15 @@ use Rattle.std.specs.Option.{option_map}
 use Rattle.group_defs.proofs.OutputLaws.{output_held}
 use Rattle.aurora_top.proofs.AtBarrier.{from_is, mark_is, goes_on, not_stuck, all_turns}
 use Rattle.aurora_top.proofs.Pieces.{takes_none}
-use Rattle.aurora_top.proofs.RunLaws.{made, fetched, acked, turning_epochs, made_legal, made_epochs, fetched_legal, acked_legal, fetched_barrier, acked_barrier, fetched_group, acked_group, fetched_epochs, acked_epochs, last_is, turns_are, settled}
+use Rattle.aurora_top.proofs.RunLaws.{made, fetched, acked, made_order, fetched_order, acked_order, turning_epochs, made_legal, made_epochs, fetched_legal, acked_legal, fetched_barrier, acked_barrier, fetched_group, acked_group, fetched_epochs, acked_epochs, last_is, turns_are, settled}
 
 -- an unused disk's images are among those of its run
 unused_one : (image : List ℕ) (trace : List Mark) (left : List ℕ) → newest left ≡ None → HoldsOne (flat_run image trace) left
 unused_one image trace left unused = inr (inr (refl, unused))
+
+-- what was logged so far is the beginning of the one trace
+solo_prefix : (image : List ℕ) (trace : List Mark) → IsSoloSoFar (flat_group image) 0 limits trace → IsSoloPrefix (flat_group image) 0 limits trace
+solo_prefix image trace so_far = goes_to_its_end (flat_group image) 0 limits trace (omega arith) refl (omega arith) so_far
 
 -- nothing is released before an acknowledgement
 none_released : (image : List ℕ) (trace : List Mark) (out : SinkView) → out.count ≡ 0 → Released (flat_run image trace) [] out out
@@ -56,11 +62,12 @@ module _ (words : List (List ℕ)) (before opened : DiskView) (files : FilesView
   unused r told = runs.unused r told
 
   -- the run ended for want of memory, before its commit
-  pub out_of_memory : (trace : List Mark) (acks : List AckMark) → Legal (flat_group image) 0 limits trace → acks ≡ [] → filter_map acked_epoch trace ≡ [] → WasRun words before opened files out out at trace acks NoMemory
-  out_of_memory trace acks legal none no_acks = subst (λ (l : List AckMark). WasRun words before opened files out out at trace l NoMemory) (sym none) (record {
+  pub out_of_memory : (trace : List Mark) (acks : List AckMark) → Legal (flat_group image) 0 limits trace → InOrderAfter (flat_group image) 0 limits [] trace → acks ≡ [] → filter_map acked_epoch trace ≡ [] → WasRun words before opened files out out at trace acks NoMemory
+  out_of_memory trace acks legal order none no_acks = subst (λ (l : List AckMark). WasRun words before opened files out out at trace l NoMemory) (sym none) (record {
     image = image;
     runs = runs;
     legal = legal;
+    order = solo_prefix image trace (record { legal = legal; order = order });
     safe = λ r told. record {
       acknowledged = tt;
       opened = λ img left. let same = opening.opened r told img left in subst (HoldsOne (flat_run image trace)) (sym same) (unused_one image trace r (unused r told));
@@ -125,6 +132,7 @@ module _ (words : List (List ℕ)) (before opened disk : DiskView) (files : File
         image = image;
         runs = runs;
         legal = fetched_legal (flat_group image) ms turns (group_in f.final) f.at_barrier;
+        order = solo_prefix image (fetched ms) (record { legal = fetched_legal (flat_group image) ms turns (group_in f.final) f.at_barrier; order = fetched_order (flat_group image) ms turns (group_in f.final) f.at_barrier });
         blocks = u.blocks ∙ unwritten.blocks;
         safe = λ r told. record {
           acknowledged = tt;
@@ -192,9 +200,13 @@ module _ (words : List (List ℕ)) (before opened disk : DiskView) (files : File
   release_all : Takes g.frame.out.bytes out out' → Released whole one_ack out out'
   release_all taken = release_of (length g.frame.out.bytes) (omega arith) (subst (λ (l : List ℕ). Takes l out out') (sym (take_all (length g.frame.out.bytes) g.frame.out.bytes (omega arith))) taken)
 
-  ended_with : (epoch made output : ℕ) → Takes g.frame.out.bytes out out' → epoch ≡ 1 → made ≡ turns → output ≡ g.frame.out.mark → EndsWith whole one_ack out' epoch made output
+  so_far : IsSoloSoFar (flat_group image) 0 limits (acked f.marks)
+  so_far = record { legal = acked_legal (flat_group image) f.marks turns (group_in f.final) at_barrier; order = acked_order (flat_group image) f.marks turns (group_in f.final) at_barrier }
+
+  ended_with : (epoch made output : ℕ) → IsDone (last_group whole) ⊎ (IsStuck (last_group whole) ⊎ IsSpent limits (acked f.marks) (last_group whole)) → Takes g.frame.out.bytes out out' → epoch ≡ 1 → made ≡ turns → output ≡ g.frame.out.mark → EndsWith whole one_ack out' epoch made output
   unfolding whole one_ack
-  ended_with epoch made output taken one same last = record {
+  ended_with epoch made output over taken one same last = record {
+    whole = record { so_far = so_far; ended = (settled (flat_group image) f.marks turns (group_in f.final) at_barrier, over) };
     settled = settled (flat_group image) f.marks turns (group_in f.final) at_barrier;
     epoch_is = one;
     turns_is = same ∙ sym (turns_are (flat_group image) f.marks turns (group_in f.final) at_barrier);
@@ -219,8 +231,8 @@ module _ (words : List (List ℕ)) (before opened disk : DiskView) (files : File
 
   ended_as : (end : End) → Takes g.frame.out.bytes out out' → EndsReleased g turns end → EndsFor whole one_ack before disk out out' end
   unfolding whole
-  ended_as (Done epoch made output) taken e = (ended_with epoch made output taken e.0 e.1 e.2, done e.3)
-  ended_as (Spent epoch made output) taken e = (ended_with epoch made output taken e.0 e.1 e.2, spent e.3)
+  ended_as (Done epoch made output) taken e = (ended_with epoch made output (inl (done e.3)) taken e.0 e.1 e.2, done e.3)
+  ended_as (Spent epoch made output) taken e = (ended_with epoch made output (inr (inr (spent e.3))) taken e.0 e.1 e.2, spent e.3)
   ended_as SinkFault taken e = absurd e
   ended_as DiskFault taken e = absurd e
   ended_as Usage taken e = absurd e
@@ -243,6 +255,7 @@ module _ (words : List (List ℕ)) (before opened disk : DiskView) (files : File
         image = image;
         runs = runs;
         legal = acked_legal (flat_group image) ms turns (group_in f.final) at_barrier;
+        order = solo_prefix image (acked ms) so_far;
         blocks = c.blocks ∙ unwritten.blocks;
         safe = λ r told. record {
           acknowledged = (λ img left. (1, omega arith, record { barrier = known; group = g; group_is = group_at_1; held = c.held r (unwritten.reading ∙ told) img left }), tt);
@@ -259,14 +272,15 @@ module _ (words : List (List ℕ)) (before opened disk : DiskView) (files : File
 
 -- memory ran out during the turns, or at the barrier
 pub turning_stopped : (start : Group) (ms : List Mark) → IsTurning start ms → IsStopped start ms
-turning_stopped start ms t = record { legal = t.legal; unacked = turning_epochs start ms t.legal t.no_barrier }
+turning_stopped start ms t = record { legal = t.legal; order = t.order; unacked = turning_epochs start ms t.legal t.no_barrier }
 
 pub at_barrier_stopped : (start : Group) (ms : List Mark) (turns : ℕ) (g : Group) → IsAtBarrier start ms turns g → IsStopped start ms
-at_barrier_stopped start ms turns g at = record { legal = at.legal; unacked = turning_epochs start ms at.legal at.no_barrier }
+at_barrier_stopped start ms turns g at = record { legal = at.legal; order = at.order; unacked = turning_epochs start ms at.legal at.no_barrier }
 
 pub barred_stopped : (start : Group) (trace : List Mark) (g : Group) (turns : ℕ) → IsBarred start trace g turns → IsStopped start trace
 barred_stopped start trace g turns b = record {
   legal = subst (λ (l : List Mark). Legal start 0 limits l) (sym b.trace_is) (made_legal start b.marks turns (group_in b.final) b.at_barrier);
+  order = subst (λ (l : List Mark). InOrderAfter start 0 limits [] l) (sym b.trace_is) (made_order start b.marks turns (group_in b.final) b.at_barrier);
   unacked = ap (filter_map acked_epoch) b.trace_is ∙ made_epochs start b.marks turns (group_in b.final) b.at_barrier;
 }
 
@@ -292,7 +306,8 @@ module _ (words : List (List ℕ)) (before opened : DiskView) (files : FilesView
   pub ran_out : (trace : List Mark) (acks : List AckMark) → acks ≡ [] → IsStopped (group_in first) trace → HasRun words before opened files out out o trace acks NoMemory
   ran_out trace acks none stopped =
       let legal = subst (λ (x : Group). Legal x 0 limits trace) started.first.group stopped.legal in
-      with_opening words before opened opened files out out o trace acks NoMemory since (λ at opening. out_of_memory words before opened files out at started.image started.runs opening unwritten trace acks legal none stopped.unacked)
+      let order = subst (λ (x : Group). InOrderAfter x 0 limits [] trace) started.first.group stopped.order in
+      with_opening words before opened opened files out out o trace acks NoMemory since (λ at opening. out_of_memory words before opened files out at started.image started.runs opening unwritten trace acks legal order none stopped.unacked)
 
   pub ran : (disk : DiskView) (out' : SinkView) (turns : ℕ) (g : Group) (trace trace' : List Mark) (acks : List AckMark) (end : End)
       → IsFetched (group_in first) trace g turns → IsPersisted g turns opened disk out out' trace trace' acks end → HasRun words before disk files out out' o trace' acks end

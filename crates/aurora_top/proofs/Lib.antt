@@ -6,6 +6,7 @@ pub mod Sight
 pub mod Readable
 pub mod CallLaws
 pub mod LocalLaws
+pub mod OrderLaws
 pub mod TurnLaws
 pub mod Ordered
 pub mod PlaceLaws

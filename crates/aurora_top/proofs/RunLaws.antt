@@ -1,5 +1,5 @@
 -- A run's trace once its first barrier is made, fetched and acknowledged.
-use Rattle.std.proofs.Common.{◌≡◌, ℕ, ◌==◌, ◌||◌, Bool, true, false, List, [], ◌∷◌, ◌++◌, Some, refl, ap, sym, ◌∙◌, subst, arith, append_assoc, append-nil}
+use Rattle.std.proofs.Common.{◌≡◌, ℕ, ◌==◌, ◌||◌, Bool, true, false, List, [], ◌∷◌, ◌++◌, Some, None, refl, ap, sym, ◌∙◌, subst, arith, append_assoc, append-nil}
 use Rattle.std.specs.Prelude.{IsTrue}
 use Rattle.std.specs.List.{list_any, list_all, filter_map}
 use Rattle.std.proofs.lemmas.List.Folds.{list_any-append, list_all-append}
@@ -9,13 +9,15 @@ use Rattle.group_defs.specs.declared.run.Mark.{Mark}
 use Rattle.group_defs.specs.declared.run.Mark.TheVariants.{Take, Turn, Barrier, Fetch, Ack}
 use Rattle.group_defs.specs.Ends.{IsSettled}
 use Rattle.group_defs.specs.Group.{Group}
+use Rattle.group_defs.specs.Solo.{InOrderAfter}
 use Rattle.group_defs.specs.Legal.{LegalAfter, Legal, BarrierAllowed}
 use Rattle.group_defs.specs.Trace.{after_mark, group_after, barrier, barrier_group, group_of, is_turn, is_barrier, is_barrier_of, is_fetch_of, is_ack_of, is_acked, leases, turns_in, since_barrier}
 use Rattle.group_defs.proofs.TraceLaws.{legal_more, found_more, found_before}
 use Rattle.group_defs.proofs.SoloLaws.{Ordered, ordered_more}
-use Rattle.group_defs.proofs.SoloGoesOn.{since_more, leases_more, group_more, counted}
+use Rattle.group_defs.proofs.SoloGoesOn.{since_more, leases_more, group_more, counted, last_at}
 use Rattle.aurora_top.specs.Flat.{limits, IsAtBarrier}
 use Rattle.aurora_top.specs.Safe.{acked_epoch}
+use Rattle.aurora_top.proofs.OrderLaws.{order_more}
 
 -- in a legal trace each Ack follows its Fetch, and each Fetch its Barrier
 ordered_from : (start : Group) (origin : ℕ) (bounds : Limits) (before ms : List Mark) → Ordered before → LegalAfter start origin bounds before ms → Ordered (before ++ ms)
@@ -131,6 +133,15 @@ module _ (start : Group) (ms : List Mark) (turns : ℕ) (g : Group) (at : IsAtBa
     fetched = found_last (is_fetch_of 1) (made ms) (Fetch 1) refl;
     first = isnt (list_any (is_ack_of 1) (fetched ms)) (λ h. none_acked 1 (found_before (is_ack_of 1) ms (Barrier 1) refl (found_before (is_ack_of 1) (made ms) (Fetch 1) refl h)));
   })
+
+  pub made_order : InOrderAfter start 0 limits [] (made ms)
+  made_order = order_more start ms (Barrier 1) at.order tt
+
+  pub fetched_order : InOrderAfter start 0 limits [] (fetched ms)
+  fetched_order = order_more start (made ms) (Fetch 1) made_order (last_at None ms (Barrier 1))
+
+  pub acked_order : InOrderAfter start 0 limits [] (acked ms)
+  acked_order = order_more start (fetched ms) (Ack 1) fetched_order (last_at None (made ms) (Fetch 1))
 
   pub fetched_barrier : IsTrue (list_any (is_barrier_of 1) (fetched ms))
   fetched_barrier = found_more (is_barrier_of 1) (made ms) (Fetch 1) (found_last (is_barrier_of 1) ms (Barrier 1) refl)

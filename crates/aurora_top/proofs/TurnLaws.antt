@@ -1,5 +1,5 @@
 -- Turns of the flat process, and the marks that they leave.
-use Rattle.std.proofs.Common.{◌≡◌, ◌⊎◌, inl, inr, ℕ, zero, suc, ◌+◌, ◌<◌, ◌≤◌, ◌==◌, ◌&&◌, ◌||◌, not, Bool, true, false, List, [], ◌∷◌, ◌++◌, length, Some, IsTrue, refl, sym, ap, subst, ◌∙◌, arith, add-one}
+use Rattle.std.proofs.Common.{◌≡◌, ◌⊎◌, inl, inr, ℕ, zero, suc, ◌+◌, ◌<◌, ◌≤◌, ◌==◌, ◌&&◌, ◌||◌, not, Bool, true, false, List, [], ◌∷◌, ◌++◌, length, Some, None, IsTrue, refl, sym, ap, subst, ◌∙◌, arith, add-one}
 use Rattle.std.specs.Prelude.{if◌then◌else◌, nat_lt, Result, Ok, Err, OnErr}
 use Rattle.std.specs.List.{filter, list_any, list_all}
 use Rattle.std.proofs.lemmas.List.Folds.{list_any-append}
@@ -9,11 +9,15 @@ use Rattle.group_defs.specs.declared.frame.Out.{Out}
 use Rattle.group_defs.specs.declared.run.Mark.{Mark}
 use Rattle.group_defs.specs.declared.run.Mark.TheVariants.{Take, Turn, Barrier, Fetch, Ack}
 use Rattle.group_defs.specs.Group.{Group}
+use Rattle.group_defs.specs.Ends.{IsDone, IsStuck, IsSpent}
+use Rattle.group_defs.specs.Solo.{InOrderAfter, TakeInOrder}
 use Rattle.group_defs.specs.Legal.{Legal, TakeAllowed, TurnAllowed, has_moved, is_free, is_idle, next_pid, ready}
 use Rattle.group_defs.specs.Step.{do_step, is_local, is_waiting}
 use Rattle.group_defs.specs.Trace.{group_after, turns_in, barriers_in, since_barrier, is_turn, is_barrier, is_lease, leases, leases_after, last_taken, is_acked}
 use Rattle.group_defs.specs.Turns.{steps_of, AllLocal, IsTurn, turned, does_something}
+use Rattle.group_defs.proofs.SoloGoesOn.{last_at}
 use Rattle.group_defs.proofs.TraceLaws.{group_after-append, legal_none, legal_more}
+use Rattle.aurora_top.proofs.OrderLaws.{order_more, order_none, done_ready}
 use Rattle.aurora_top.specs.declared.flat_group.FlatGroup.{FlatGroup}
 use Rattle.aurora_top.specs.Flat.{limits, running_group, ended_group, group_in, HasMade, IsAtBarrier, IsTurning}
 
@@ -136,6 +140,7 @@ acked_all all (m ∷ ms) quiet =
 -- after so many turns, without a lease and a barrier
 pub record SoFar (start : Group) (marks : List Mark) (made : ℕ) (g : Group) : Type 0 where
   pub legal : Legal start 0 limits marks
+  pub order : InOrderAfter start 0 limits [] marks
   pub group : group_after 1000 start marks ≡ g
   pub no_lease : leases marks ≡ []
   pub turns : turns_in marks ≡ made
@@ -146,7 +151,7 @@ pub record SoFar (start : Group) (marks : List Mark) (made : ℕ) (g : Group) : 
 
 pub none_yet : (start : Group) → ready start ≡ 1 ∷ [] → SoFar start [] 0 start
 unfolding group_after
-none_yet start is = record { legal = legal_none start 0 limits; group = refl; no_lease = refl; turns = refl; no_barrier = refl; barriers = refl; since = refl; first = λ e. is }
+none_yet start is = record { legal = legal_none start 0 limits; order = order_none start; group = refl; no_lease = refl; turns = refl; no_barrier = refl; barriers = refl; since = refl; first = λ e. is }
 
 next_by : (last : ℕ) (t : Bool) → nat_lt last 1 ≡ t → next_pid last (1 ∷ []) ≡ Some 1
 next_by last true e = rw (e, next_pid) refl
@@ -172,12 +177,38 @@ module _ (start : Group) (marks : List Mark) (made : ℕ) (g : Group) (so_far : 
   pub legal_taken : made < 8 → ready g ≡ 1 ∷ [] → Legal start 0 limits (marks ++ Take 0 1 ∷ [])
   legal_taken few is = legal_more start 0 limits marks (Take 0 1) so_far.legal (take_allowed few is)
 
+  ready_after : ready g ≡ 1 ∷ [] → ready (group_after 1000 start marks) ≡ 1 ∷ []
+  ready_after is = ap ready so_far.group ∙ is
+
+  not_due : made < 8 → ready g ≡ 1 ∷ [] → (turns_in (since_barrier marks) ≡ 8) ⊎ ((turns_in marks ≡ 8) ⊎ (ready (group_after 1000 start marks) ≡ [])) → ⊥
+  not_due few is (inl every) = omega (arith, ap turns_in so_far.since, so_far.turns, few, every)
+  not_due few is (inr (inl all)) = omega (arith, so_far.turns, few, all)
+  not_due few is (inr (inr none)) = let one = ready_after is in cc
+
+  not_over : made < 8 → ready g ≡ 1 ∷ [] → IsDone (group_after 1000 start marks) ⊎ (IsStuck (group_after 1000 start marks) ⊎ IsSpent limits marks (group_after 1000 start marks)) → ⊥
+  not_over few is (inl done) = let none = done_ready (group_after 1000 start marks) done in let one = ready_after is in cc
+  not_over few is (inr (inl stuck)) = let none = stuck.all_wait in let one = ready_after is in cc
+  not_over few is (inr (inr spent)) = omega (arith, so_far.turns, few, spent.turns)
+
+  -- it is the turn of the process
+  take_in_order : made < 8 → ready g ≡ 1 ∷ [] → TakeInOrder 0 limits marks (group_after 1000 start marks) 0
+  take_in_order few is = record {
+    worker_is = refl;
+    no_lease = so_far.no_lease;
+    acked = acked_all marks marks so_far.no_barrier;
+    no_barrier = λ epoch allowed. not_due few is allowed.due;
+    goes_on = λ ended. not_over few is ended.1;
+  }
+
+  pub order_taken : made < 8 → ready g ≡ 1 ∷ [] → InOrderAfter start 0 limits [] (marks ++ Take 0 1 ∷ [])
+  order_taken few is = order_more start marks (Take 0 1) so_far.order (take_in_order few is)
+
   -- a Take without its Turn
   pub turning_taken : made < 8 → ready g ≡ 1 ∷ [] → IsTurning start (marks ++ Take 0 1 ∷ [])
-  turning_taken few is = record { legal = legal_taken few is; no_barrier = quiet_more marks (Take 0 1) refl so_far.no_barrier }
+  turning_taken few is = record { legal = legal_taken few is; order = order_taken few is; no_barrier = quiet_more marks (Take 0 1) refl so_far.no_barrier }
 
   pub turning : IsTurning start marks
-  turning = record { legal = so_far.legal; no_barrier = so_far.no_barrier }
+  turning = record { legal = so_far.legal; order = so_far.order; no_barrier = so_far.no_barrier }
 
   group_taken : group_after 1000 start (marks ++ Take 0 1 ∷ []) ≡ g
   unfolding group_after
@@ -190,6 +221,7 @@ module _ (start : Group) (marks : List Mark) (made : ℕ) (g : Group) (so_far : 
   pub at_barrier : 0 < made → (made ≡ 8) ⊎ (ready g ≡ []) → IsAtBarrier start marks made g
   at_barrier some due = record {
     legal = so_far.legal;
+    order = so_far.order;
     group = so_far.group;
     no_barrier = so_far.no_barrier;
     turns = so_far.turns;
@@ -225,6 +257,7 @@ module _ (start : Group) (marks : List Mark) (made : ℕ) (g : Group) (so_far : 
   unfolding group_after
   one_turn = record {
     legal = legal_more start 0 limits (marks ++ Take 0 1 ∷ []) (Turn 0 1 n) (legal_taken start marks made g so_far few is_ready) turn_allowed;
+    order = order_more start (marks ++ Take 0 1 ∷ []) (Turn 0 1 n) (order_taken start marks made g so_far few is_ready) (last_at None marks (Take 0 1));
     group = group_after-append 1000 start (marks ++ Take 0 1 ∷ []) (Turn 0 1 n ∷ []) ∙ ap (λ (h : Group). turned 1000 h 1 n) (group_taken start marks made g so_far);
     no_lease = leases_more (marks ++ Take 0 1 ∷ []) (Turn 0 1 n) ∙ ap (λ (l : List (ℕ × ℕ)). leases_after l (Turn 0 1 n)) (leases_taken start marks made g so_far);
     turns = turns_more (marks ++ Take 0 1 ∷ []) (Turn 0 1 n) 1 refl ∙ omega (arith, turns_more marks (Take 0 1) 0 refl, so_far.turns);

@@ -9,6 +9,7 @@ use Rattle.group_defs.specs.declared.run.Mark.{Mark}
 use Rattle.group_defs.specs.declared.run.AckMark.{AckMark}
 use Rattle.group_defs.specs.Ends.{IsDone, IsSpent}
 use Rattle.group_defs.specs.Legal.{Legal}
+use Rattle.group_defs.specs.Solo.{IsSoloPrefix}
 use Rattle.aurora_top.specs.Boot.{flat_group}
 use Rattle.aurora_top.specs.Flat.{limits}
 use Rattle.aurora_top.specs.Refusals.{Refused, Runs, IsUnwritten}
@@ -44,6 +45,8 @@ pub record WasRun (words : List (List ℕ)) (disk disk' : DiskView) (files : Fil
   pub image : List ℕ
   pub runs : Runs words disk files image out.count
   pub legal : Legal (flat_group image) 0 limits trace
+  -- the one trace of a run on one thread, as far as it came
+  pub order : IsSoloPrefix (flat_group image) 0 limits trace
   pub blocks : disk'.blocks ≡ disk.blocks
   -- the disk that comes back, where the disk tells its bytes
   pub safe : ForSome disk.reading (λ r. Safe (flat_run image trace) opened_at acks disk disk')

@@ -13,6 +13,7 @@ use Rattle.group_defs.specs.declared.run.Limits.{Limits}
 use Rattle.group_defs.specs.declared.run.Mark.{Mark}
 use Rattle.group_defs.specs.Group.{Group}
 use Rattle.group_defs.specs.Legal.{Legal, BarrierAllowed}
+use Rattle.group_defs.specs.Solo.{InOrderAfter}
 use Rattle.group_defs.specs.Trace.{group_after, turns_in, is_barrier}
 use Rattle.std.specs.List.{list_any}
 use Rattle.aurora_top.specs.declared.flat_group.FlatGroup.{FlatGroup}
@@ -82,9 +83,10 @@ pub record HasMade (g : FlatGroup) (made : ℕ) : Type 0 where
   pub mark : g.out.mark ≡ 0
   pub short : length g.out.bytes ≤ 4096 * made
 
--- The turns up to the first barrier: a legal trace without a barrier, after which the barrier is allowed.
+-- The turns up to the first barrier: a legal trace in the order of one thread, without a barrier, after which it is allowed.
 pub record IsAtBarrier (start : Group) (marks : List Mark) (made : ℕ) (g : Group) : Type 0 where
   pub legal : Legal start 0 limits marks
+  pub order : InOrderAfter start 0 limits [] marks
   pub group : group_after 1000 start marks ≡ g
   pub no_barrier : list_any is_barrier marks ≡ false
   pub turns : turns_in marks ≡ made
@@ -93,4 +95,5 @@ pub record IsAtBarrier (start : Group) (marks : List Mark) (made : ℕ) (g : Gro
 -- turns for which memory ran out: a legal trace without a barrier
 pub record IsTurning (start : Group) (marks : List Mark) : Type 0 where
   pub legal : Legal start 0 limits marks
+  pub order : InOrderAfter start 0 limits [] marks
   pub no_barrier : list_any is_barrier marks ≡ false

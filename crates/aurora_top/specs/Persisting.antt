@@ -11,6 +11,7 @@ use Rattle.group_defs.specs.declared.run.Mark.{Mark}
 use Rattle.group_defs.specs.declared.run.Mark.TheVariants.{Barrier, Fetch, Ack}
 use Rattle.group_defs.specs.Group.{Group}
 use Rattle.group_defs.specs.Legal.{Legal}
+use Rattle.group_defs.specs.Solo.{InOrderAfter}
 use Rattle.group_defs.specs.Trace.{barrier}
 use Rattle.ckpt_chain.specs.Slot.{newest}
 use Rattle.ckpt_records.specs.Holds.{Holds}
@@ -41,6 +42,7 @@ pub record IsFetched (start : Group) (trace : List Mark) (g : Group) (turns : â„
 -- A run for which memory ran out before its commit.
 pub record IsStopped (start : Group) (trace : List Mark) : Type 0 where
   pub legal : Legal start 0 limits trace
+  pub order : InOrderAfter start 0 limits [] trace
   pub unacked : filter_map acked_epoch trace â‰¡ []
 
 -- no slot is open, or the first epoch's group is held

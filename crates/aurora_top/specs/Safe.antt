@@ -10,6 +10,7 @@ use Rattle.group_defs.specs.declared.run.Mark.TheVariants.{Take, Turn, Barrier, 
 use Rattle.group_defs.specs.Ends.{IsSettled}
 use Rattle.group_defs.specs.Group.{Group}
 use Rattle.group_defs.specs.Output.{last_position}
+use Rattle.group_defs.specs.Solo.{IsSoloTrace}
 use Rattle.group_defs.specs.Trace.{IsGroupOf, group_after, is_barrier_of, mark_of, output, turns_in}
 use Rattle.ckpt_chain.specs.Slot.{newest}
 use Rattle.ckpt_records.specs.Holds.{Holds}
@@ -94,9 +95,10 @@ pub record Released (run : Run) (acks : List AckMark) (before after : SinkView) 
   pub most : to ≤ mark
   pub taken : Takes (output_between run before.count to) before after
 
--- The run ended by itself: its trace is settled, the output has everything, and the numbers told are the last acknowledged
--- epoch, the turns, and the last position.
+-- The run ended by itself: its trace is the whole one of a run on one thread, and settled; the output has everything, and
+-- the numbers told are the last acknowledged epoch, the turns, and the last position.
 pub record EndsWith (run : Run) (acks : List AckMark) (out : SinkView) (epoch turns last : ℕ) : Type 0 where
+  pub whole : IsSoloTrace run.start run.origin run.limits run.trace
   pub settled : IsSettled run.trace
   pub epoch_is : epoch ≡ last_acked run acks
   pub turns_is : turns ≡ turns_in run.trace
