@@ -28,6 +28,8 @@ pub use solo::aurora_solo;
 pub use words::{Mode, mode_of};
 
 #[cfg(test)]
+mod samples;
+#[cfg(test)]
 mod stops;
 #[cfg(test)]
 mod tests;

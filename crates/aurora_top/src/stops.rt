@@ -1,7 +1,8 @@
 //! Stops at any call of the disk, and calls that fail: what an image then holds, by a reader of its own.
+use crate::samples::{FLAT_P, RUN, SIXTEEN, WRITE_HI, files, image, sink, words};
 use crate::{Ending, aurora_solo};
+use dev_traits::Disk;
 use dev_traits::mem::{Fill, MemDisk, MemFiles, MemSink};
-use dev_traits::{Disk, Word};
 use group_defs::Mark;
 use std::alloc::Global;
 use std::test::Fail;
@@ -13,19 +14,6 @@ struct Remains {
     out: MemSink,
     acked: bool,
 }
-
-/// Writes three bytes that stand behind it, and exits with 7.
-const WRITE_HI: &[u32] = &[
-    0x0001_05b7,
-    0x0245_8593,
-    0x0010_0513,
-    0x0030_0613,
-    0x0400_0893,
-    0x0000_0073,
-    0x0070_0513,
-    0x05d0_0893,
-    0x0000_0073,
-];
 
 const FILLS: [Fill; 5] = [
     Fill::Old,
@@ -39,39 +27,10 @@ const FILLS: [Fill; 5] = [
 /// gate, and a sync.
 const CALLS: u64 = 9;
 
-fn image(alloc: Global) -> Result<Vec<u8>, Fail> {
-    let mut bytes = Vec::new(alloc);
-    for word in WRITE_HI {
-        bytes.extend_from_slice(&word.to_le_bytes())?;
-    }
-    bytes.extend_from_slice(b"hi\n")?;
-    Ok(bytes)
-}
-
-fn files(alloc: Global) -> Result<MemFiles, Fail> {
-    let mut list = Vec::new(alloc);
-    let manifest = b"aurora 1\nflat p\n".as_slice();
-    list.push((Word::new(alloc, "m")?, manifest.to_vec(alloc)?))?;
-    list.push((Word::new(alloc, "p")?, image(alloc)?))?;
-    Ok(MemFiles::of(alloc, list))
-}
-
-fn words(alloc: Global) -> Result<Vec<Word>, Fail> {
-    let mut list = Vec::new(alloc);
-    for text in ["run", "d", "o", "m"] {
-        list.push(Word::new(alloc, text)?)?;
-    }
-    Ok(list)
-}
-
 /// Sixteen blocks of zeros, whose call of this number fails.
 fn disk(alloc: Global, failing: u64) -> Result<MemDisk, Fail> {
-    let disk = MemDisk::of(alloc, vec![in alloc; 0u8; 65_536]?, 100)?;
+    let disk = MemDisk::of(alloc, vec![in alloc; 0u8; SIXTEEN]?, 100)?;
     Ok(disk.failing(vec![in alloc; failing]?))
-}
-
-fn sink(alloc: Global) -> Result<MemSink, Fail> {
-    Ok(MemSink::of(alloc, Vec::new(alloc), 1000)?)
 }
 
 fn remains_of(run: Ending<MemFiles, MemDisk, MemSink, MemSink>) -> Remains {
@@ -93,11 +52,11 @@ fn remains_of(run: Ending<MemFiles, MemDisk, MemSink, MemSink>) -> Remains {
 
 /// What the run leaves in which the disk's call of this number fails.
 fn run_failing(alloc: Global, call: u64) -> Result<Remains, Fail> {
-    let words = words(alloc)?;
-    let files = files(alloc)?;
+    let words = words(alloc, RUN)?;
+    let files = files(alloc, FLAT_P, image(alloc, WRITE_HI, b"hi\n")?)?;
     let disk = disk(alloc, call)?;
-    let out = sink(alloc)?;
-    let say = sink(alloc)?;
+    let out = sink(alloc, b"")?;
+    let say = sink(alloc, b"")?;
     Ok(remains_of(aurora_solo(alloc, &words, files, disk, out, say)))
 }
 

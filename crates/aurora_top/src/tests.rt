@@ -1,5 +1,5 @@
+use crate::samples::{FLAT_P, RUN, SIXTEEN, WRITE_HI, files, image, sink, words};
 use crate::{End, Ending, aurora_solo};
-use dev_traits::Word;
 use dev_traits::mem::{MemDisk, MemFiles, MemSink};
 use group_defs::Mark;
 use std::alloc::Global;
@@ -7,61 +7,14 @@ use std::test::Fail;
 
 type Run = Ending<MemFiles, MemDisk, MemSink, MemSink>;
 
-/// The manifest of the image `p`.
-const FLAT_P: &[u8] = b"aurora 1\nflat p\n";
-
 /// Exits with 0 at once.
 const EXIT: &[u32] = &[0x05d0_0893, 0x0000_0513, 0x0000_0073];
-
-/// Writes three bytes that stand behind it, and exits with 7.
-const WRITE_HI: &[u32] = &[
-    0x0001_05b7,
-    0x0245_8593,
-    0x0010_0513,
-    0x0030_0613,
-    0x0400_0893,
-    0x0000_0073,
-    0x0070_0513,
-    0x05d0_0893,
-    0x0000_0073,
-];
 
 /// Jumps to itself.
 const LOOP: &[u32] = &[0x0000_006f];
 
-fn image(alloc: Global, words: &[u32], tail: &[u8]) -> Result<Vec<u8>, Fail> {
-    let mut bytes = Vec::new(alloc);
-    for word in words {
-        bytes.extend_from_slice(&word.to_le_bytes())?;
-    }
-    bytes.extend_from_slice(tail)?;
-    Ok(bytes)
-}
-
-fn words(alloc: Global, texts: &[&str]) -> Result<Vec<Word>, Fail> {
-    let mut list = Vec::new(alloc);
-    for text in texts {
-        list.push(Word::new(alloc, text)?)?;
-    }
-    Ok(list)
-}
-
-fn files(alloc: Global, manifest: &[u8], image: Vec<u8>) -> Result<MemFiles, Fail> {
-    let mut list = Vec::new(alloc);
-    list.push((Word::new(alloc, "m")?, manifest.to_vec(alloc)?))?;
-    list.push((Word::new(alloc, "p")?, image))?;
-    Ok(MemFiles::of(alloc, list))
-}
-
-/// Sixteen blocks of zeros.
-const SIXTEEN: usize = 65_536;
-
 fn disk(alloc: Global, size: usize) -> Result<MemDisk, Fail> {
     Ok(MemDisk::of(alloc, vec![in alloc; 0u8; size]?, 100)?)
-}
-
-fn sink(alloc: Global, bytes: &[u8]) -> Result<MemSink, Fail> {
-    Ok(MemSink::of(alloc, bytes.to_vec(alloc)?, 1000)?)
 }
 
 fn run(
@@ -97,13 +50,7 @@ fn end_of(run: Run) -> End {
 fn a_program_exits(rt: HostRuntime) -> Result<(), Fail> {
     let alloc = rt.alloc();
     let files = files(alloc, FLAT_P, image(alloc, EXIT, b"")?)?;
-    let run = run(
-        alloc,
-        &["run", "d", "o", "m"],
-        files,
-        disk(alloc, SIXTEEN)?,
-        sink(alloc, b"")?,
-    )?;
+    let run = run(alloc, RUN, files, disk(alloc, SIXTEEN)?, sink(alloc, b"")?)?;
     assert_eq!(rt; run.status, 0);
     assert_eq!(rt; run.opened_at, 1);
     let trace = [
@@ -134,13 +81,7 @@ fn a_program_exits(rt: HostRuntime) -> Result<(), Fail> {
 fn output_is_released(rt: HostRuntime) -> Result<(), Fail> {
     let alloc = rt.alloc();
     let files = files(alloc, FLAT_P, image(alloc, WRITE_HI, b"hi\n")?)?;
-    let run = run(
-        alloc,
-        &["run", "d", "o", "m"],
-        files,
-        disk(alloc, SIXTEEN)?,
-        sink(alloc, b"")?,
-    )?;
+    let run = run(alloc, RUN, files, disk(alloc, SIXTEEN)?, sink(alloc, b"")?)?;
     assert_eq!(rt; run.out.bytes(), b"hi\n".as_slice());
     assert_eq!(rt;
         end_of(run),
@@ -162,8 +103,6 @@ struct Case {
     out: &'static [u8],
     end: End,
 }
-
-const RUN: &[&str] = &["run", "d", "o", "m"];
 
 /// A command that stops at its image: the first word is no instruction.
 const GOOD: Case = Case {
