@@ -76,11 +76,11 @@ b_newest (Some a) (Some b) c d body (inl shut) same e = ap₂ newer shut same �
 
 -- ---- blocks that a commit doesn't write
 
-block_is : (image : List ℕ) (n : ℕ) → block image n ≡ take 4096 (drop (4096 * n) image)
+pub block_is : (image : List ℕ) (n : ℕ) → block image n ≡ take 4096 (drop (4096 * n) image)
 unfolding block
 block_is image n = let size : 4096 * n + 4096 - 4096 * n ≡ 4096 = omega arith in ap (λ (k : ℕ). take k (drop (4096 * n) image)) size
 
-same_block : (ranges : List (ℕ × ℕ)) (a b : List ℕ) (n : ℕ) → ((i : ℕ) → 4096 * n ≤ i → i < 4096 * n + 4096 → IsOutside ranges i) → SameOutside ranges a b → block b n ≡ block a n
+pub same_block : (ranges : List (ℕ × ℕ)) (a b : List ℕ) (n : ℕ) → ((i : ℕ) → 4096 * n ≤ i → i < 4096 * n + 4096 → IsOutside ranges i) → SameOutside ranges a b → block b n ≡ block a n
 same_block ranges a b n out same =
     let p = 4096 * n in
     block_is b n
@@ -98,7 +98,7 @@ outside (m ∷ ns) n i free le lt = (one (cases_eq m n), outside ns n i (λ h. f
     one (inl same) = absurd (free (inl same))
     one (inr differs) = elim (cases_lt m n) [ inl below ↦ inr (omega (arith, below, le)) | inr above ↦ let higher : n < m = omega (arith, above, differs) in inl (omega (arith, higher, lt)) ]
 
-low : (target : Slot) → gate_place target + 4096 ≤ 8192
+pub low : (target : Slot) → gate_place target + 4096 ≤ 8192
 low A = omega arith
 low B = omega arith
 

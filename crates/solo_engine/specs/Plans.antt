@@ -1,0 +1,73 @@
+-- What a commit writes for a group.
+use Rattle.std.specs.Prelude.{◌↔◌, Bool, IsTrue, ⊤, ◌≡◌, ◌<◌, ◌+◌, ◌/◌, ℕ, List, [], ◌∷◌, ◌++◌, length, map}
+use Rattle.std.specs.List.{AllByRecursion, AllPairs}
+use Rattle.group_defs.specs.Group.{Group}
+use Rattle.group_defs.specs.Touched.{page_bytes, nonzero_pages}
+use Rattle.group_defs.specs.declared.frame.Frame.{Frame}
+use Rattle.block_alloc.specs.Free.{MayBeFree, free_count, is_free}
+use Rattle.ckpt_chain.specs.Chain.{Has, first_of, laid}
+use Rattle.ckpt_chain.specs.declared.slot.SlotBody.{SlotBody}
+use Rattle.ckpt_records.specs.Spelling.{record_bytes}
+use Rattle.ckpt_records.specs.declared.meta.PagePlace.{PagePlace}
+use Rattle.commit_gate.specs.Whole.{numbers}
+use Rattle.commit_gate.specs.declared.whole.Block.{Block}
+use Rattle.solo_engine.specs.Keeping.{Kept, used_by}
+use Rattle.solo_engine.specs.declared.plan.Page.{Page}
+use Rattle.solo_engine.specs.declared.plan.PlanRefused.{PlanRefused}
+use Rattle.solo_engine.specs.declared.plan.PlanRefused.TheVariants as refusals
+
+-- an object's number and the page's place in it
+abbrev pub place_of : Page → ℕ × ℕ
+place_of p = (p.object, p.page)
+
+-- These are the pages of the group that aren't all zero, in their order, each with its bytes.
+pub record ArePagesOf (g : Group) (pages : List Page) : Type 0 where
+  pub which : map place_of pages ≡ nonzero_pages g
+  pub bytes : AllByRecursion (λ p. p.bytes ≡ page_bytes g.memory (place_of p)) pages
+
+-- the blocks in use have those of what is kept
+abbrev pub Covers : List ℕ → Kept → Type 0
+Covers used kept = (b : ℕ) → Has b (used_by kept) → Has b used
+
+-- how many meta blocks so many bytes take
+abbrev pub metas_for : ℕ → ℕ
+metas_for size = (size + 4087) / 4088
+
+-- the pages in these blocks, one after another
+unfoldable pub placed : List Page → List ℕ → List PagePlace
+placed [] blocks = []
+placed (p ∷ pages) [] = []
+placed (p ∷ pages) (b ∷ blocks) = record { object = p.object; page = p.page; block = b } ∷ placed pages blocks
+
+-- The pages lie in free blocks, and behind them the meta blocks of the record that says so; the body names them.
+pub record IsLaidOut (count : ℕ) (used : List ℕ) (epoch : ℕ) (f : Frame) (pages : List Page) (blocks : List Block) (body : SlotBody) : Type 0 where
+  pub places : List ℕ
+  pub metas : List ℕ
+  pub enough : length places ≡ length pages
+  pub metas_enough : length metas ≡ metas_for (length (record_bytes f (placed pages places)))
+  pub numbers_are : numbers blocks ≡ places ++ metas
+  pub rising : AllPairs (λ m n. m < n) (places ++ metas)
+  pub free : AllByRecursion (MayBeFree count used) (places ++ metas)
+  pub bytes_are : map (λ b. b.bytes) blocks ≡ map (λ p. p.bytes) pages ++ laid (record_bytes f (placed pages places)) metas
+  pub body_is : body ≡ record { epoch = epoch; first = first_of metas; length = length (record_bytes f (placed pages places)) }
+
+-- the page in block 0: a record's length is the same wherever its pages lie
+abbrev pub anywhere : Page → PagePlace
+anywhere p = record { object = p.object; page = p.page; block = 0 }
+
+-- how many blocks a checkpoint takes: one for each page, and those of its record
+abbrev pub needs : Frame → List Page → ℕ
+needs f pages = length pages + metas_for (length (record_bytes f (map anywhere pages)))
+
+-- The checkpoint needs more blocks than are free: both numbers, with a flag for each block.
+pub record IsFull (count : ℕ) (used : List ℕ) (f : Frame) (pages : List Page) (need free : ℕ) : Type 0 where
+  pub flags : List Bool
+  pub flags_are : (b : ℕ) → IsTrue (is_free flags b) ↔ MayBeFree count used b
+  pub need_is : need ≡ needs f pages
+  pub free_is : free ≡ free_count flags
+  pub too_few : free < need
+
+-- Want of memory is open.
+abbrev pub IsPlanRefused : ℕ → List ℕ → Frame → List Page → PlanRefused → Type 0
+IsPlanRefused count used f pages (refusals.Full need free) = IsFull count used f pages need free
+IsPlanRefused count used f pages refusals.NoMemory = ⊤

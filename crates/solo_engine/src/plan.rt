@@ -1,0 +1,243 @@
+//! What a commit writes, and where.
+ghost use Rattle.std.specs.Prelude.{◌+◌, ◌↔◌, Bool, IsTrue, ℕ, IfErr, IfNone, List, ◌≡◌, ◌≤◌, ◌<◌, ◌^◌, ◌++◌, IfOk, IfSome, length, map};
+ghost use Rattle.block_alloc.specs.Free.{MayBeFree, free_count, is_free};
+ghost use Rattle.ckpt_records.specs.Fits.{IsInForm};
+ghost use Rattle.ckpt_chain.specs.Chain.{first_of as first_number, laid};
+ghost use Rattle.ckpt_records.specs.Spelling.{record_bytes};
+ghost use Rattle.commit_gate.specs.Whole.{numbers};
+ghost use Rattle.ckpt_records.specs.Holds.{IsCheckpointed};
+ghost use Rattle.group_defs.specs.Group.{Group};
+ghost use Rattle.solo_engine.specs.Keeping.{Avoids, IsSoundAfter, Kept, epoch_after};
+ghost use Rattle.solo_engine.specs.Plans.{ArePagesOf, Covers, IsLaidOut, IsPlanRefused, needs, placed};
+ghost use Rattle.solo_engine.specs.Taking.{AreLaidIn, AreTaken, blocks_in};
+ghost use Rattle.std.specs.List.{AllByRecursion};
+
+use block_alloc::{Blocks, rebuild};
+use ckpt_chain::{PageBytes, SlotBody, lay_stream};
+use ckpt_records::{PagePlace, write_meta};
+use commit_gate::Block;
+use group_defs::Frame;
+use lists::{NoMemory, Seq};
+use std::alloc::Global;
+
+/// The bytes of a record in one meta block; before them stands the number of the next one.
+const PAYLOAD: usize = 4_088;
+
+/// A page that a checkpoint writes: 4,096 bytes of an object.
+#[derive(Debug, Drop)]
+pub struct Page {
+    pub object: u64,
+    pub page: u64,
+    pub bytes: Seq<u8>,
+}
+
+/// What a commit writes, and the body of its slot.
+#[derive(Debug, Drop)]
+pub struct Plan {
+    pub blocks: Seq<Block>,
+    pub body: SlotBody,
+}
+
+/// Why there is no plan.
+#[derive(Clone, Copy, Debug, PartialEq, Eq)]
+pub enum PlanRefused {
+    /// The checkpoint needs more blocks than are free.
+    Full { need: u64, free: u64 },
+    NoMemory,
+}
+
+// So many of the least free blocks, by rising number; none where fewer are free.
+fn take_blocks(
+    alloc: Global,
+    blocks: &mut Blocks,
+    count: usize,
+) -> Result<Option<Vec<u64>>, NoMemory>
+    ensures size { IfOk result (λ taken. IfSome taken (λ list. length list.items ≡ count)) }
+    ensures taken { IfOk result (λ taken. IfSome taken (λ list. AreTaken blocks.old list.items blocks.new)) }
+    ensures left { IfOk result (λ taken. IfSome taken (λ list. free_count blocks.new + count ≡ free_count blocks.old)) }
+    ensures none { IfOk result (λ taken. IfNone taken (free_count blocks.old < count)) }
+{
+    let mut taken = Vec::new(alloc);
+    for _ in 0..count {
+        let block = match blocks.take() {
+            Some(block) => block,
+            None => return Ok(None),
+        };
+        taken.push(block)?;
+    }
+    Ok(Some(taken))
+}
+
+fn places_of(alloc: Global, pages: &[Page], blocks: &[u64]) -> Result<Vec<PagePlace>, NoMemory>
+    requires { length blocks.now ≡ length pages.now }
+    ensures { IfOk result (λ places. places.items ≡ placed pages.now blocks.now) }
+{
+    let mut places = Vec::new(alloc);
+    for (i, page) in pages.iter().enumerate() {
+        places.push(PagePlace {
+            object: page.object,
+            page: page.page,
+            block: blocks[i],
+        })?;
+    }
+    Ok(places)
+}
+
+// The record of a frame and of pages in these blocks.
+fn record_of(
+    alloc: Global,
+    frame: &Frame,
+    pages: &[Page],
+    blocks: &[u64],
+) -> Result<Vec<u8>, NoMemory>
+    requires form { IsInForm frame.now }
+    requires enough { length blocks.now ≡ length pages.now }
+    ensures { IfOk result (λ bytes. bytes.items ≡ record_bytes frame.now (placed pages.now blocks.now)) }
+{
+    let places = places_of(alloc, pages, blocks)?;
+    write_meta(alloc, frame, &places)
+}
+
+// The pages in these blocks.
+fn page_blocks(alloc: Global, numbers: &[u64], pages: &[Page]) -> Result<Vec<Block>, NoMemory>
+    requires { length numbers.now ≡ length pages.now }
+    ensures { IfOk result (λ blocks. blocks.items ≡ blocks_in numbers.now (map (λ p. p.bytes) pages.now)) }
+{
+    let mut blocks = Vec::new(alloc);
+    for (i, page) in pages.iter().enumerate() {
+        blocks.push(Block {
+            number: numbers[i],
+            bytes: Seq::of(Vec::from_slice(alloc, page.bytes.as_slice())?),
+        })?;
+    }
+    Ok(blocks)
+}
+
+// A record in these meta blocks.
+fn meta_blocks(alloc: Global, numbers: &[u64], metas: &[PageBytes]) -> Result<Vec<Block>, NoMemory>
+    requires { length numbers.now ≡ length metas.now }
+    ensures { IfOk result (λ blocks. blocks.items ≡ blocks_in numbers.now metas.now) }
+{
+    let mut blocks = Vec::new(alloc);
+    for (i, meta) in metas.iter().enumerate() {
+        blocks.push(Block {
+            number: numbers[i],
+            bytes: Seq::of(Vec::from_slice(alloc, meta.as_slice())?),
+        })?;
+    }
+    Ok(blocks)
+}
+
+fn first_block(numbers: &[u64]) -> u64
+    ensures { result ≡ first_number numbers.now }
+{
+    match numbers.first() {
+        Some(number) => *number,
+        None => 0,
+    }
+}
+
+// The pages in their blocks, and behind them a record's bytes in its meta blocks.
+fn all_blocks(
+    alloc: Global,
+    places: &[u64],
+    pages: &[Page],
+    metas: &[u64],
+    bytes: &[u8],
+) -> Result<Vec<Block>, NoMemory>
+    requires { length places.now ≡ length pages.now }
+    ensures numbers { IfOk result (λ blocks. numbers blocks.items ≡ places.now ++ metas.now) }
+    ensures bytes { IfOk result (λ blocks. map (λ b. b.bytes) blocks.items ≡ map (λ p. p.bytes) pages.now ++ laid bytes.now metas.now) }
+{
+    let mut blocks = page_blocks(alloc, places, pages)?;
+    let stream = lay_stream(alloc, bytes, metas)?;
+    let mut behind = meta_blocks(alloc, metas, &stream)?;
+    blocks.append(&mut behind)?;
+    Ok(blocks)
+}
+
+// The plan in the least of the free blocks; none where too few are free.
+fn plan_in(
+    alloc: Global,
+    free: &mut Blocks,
+    epoch: u64,
+    frame: &Frame,
+    pages: &[Page],
+) -> Result<Option<Plan>, NoMemory>
+    requires { IsInForm frame.now }
+    ensures laid { IfOk result (λ plan. IfSome plan (λ plan. AreLaidIn free.old epoch frame.now pages.now plan.blocks plan.body)) }
+    ensures none { IfOk result (λ plan. IfNone plan (free_count free.old < needs frame.now pages.now)) }
+{
+    let places = match take_blocks(alloc, free, pages.len())? {
+        Some(places) => places,
+        None => return Ok(None),
+    };
+    let record = record_of(alloc, frame, pages, &places)?;
+    let metas = match take_blocks(alloc, free, record.len().div_ceil(PAYLOAD))? {
+        Some(metas) => metas,
+        None => return Ok(None),
+    };
+    let blocks = all_blocks(alloc, &places, pages, &metas, &record)?;
+    let body = SlotBody {
+        epoch,
+        first: first_block(&metas),
+        length: record.len() as u64,
+    };
+    Ok(Some(Plan {
+        blocks: Seq::of(blocks),
+        body,
+    }))
+}
+
+// How many blocks a checkpoint needs: a record's length is the same wherever its pages lie.
+fn blocks_needed(alloc: Global, frame: &Frame, pages: &[Page]) -> Result<u64, NoMemory>
+    requires { IsInForm frame.now }
+    ensures { IfOk result (λ need. need ≡ needs frame.now pages.now) }
+{
+    let mut anywhere = Vec::new(alloc);
+    anywhere.resize(pages.len(), 0)?;
+    let record = record_of(alloc, frame, pages, &anywhere)?;
+    Ok(pages.len() as u64 + record.len().div_ceil(PAYLOAD) as u64)
+}
+
+// Why there is no plan where so many blocks are free.
+fn full(alloc: Global, frame: &Frame, pages: &[Page], free: u64) -> PlanRefused
+    requires { IsInForm frame.now }
+    ensures { (count : ℕ) (used : List ℕ) (flags : List Bool) → ((b : ℕ) → IsTrue (is_free flags b) ↔ MayBeFree count used b) → free ≡ free_count flags → free < needs frame.now pages.now → IsPlanRefused count used frame.now pages.now result }
+{
+    match blocks_needed(alloc, frame, pages) {
+        Ok(need) => PlanRefused::Full { need, free },
+        Err(NoMemory) => PlanRefused::NoMemory,
+    }
+}
+
+/// The plan of a group's commit to a disk of so many blocks of which some are in use: its pages and then its meta blocks, in
+/// the least free blocks.
+pub fn plan_commit(
+    alloc: Global,
+    count: u64,
+    used: &[u64],
+    epoch: u64,
+    frame: &Frame,
+    pages: &[Page],
+) -> Result<Plan, PlanRefused>
+    requires least { 16 ≤ count }
+    requires most { count ≤ 2 ^ 20 }
+    requires form { IsInForm frame.now }
+    requires whole { AllByRecursion (λ p. length p.bytes ≡ 4096) pages.now }
+    ensures laid { IfOk result (λ plan. IsLaidOut count used.now epoch frame.now pages.now plan.blocks plan.body) }
+    ensures refused { IfErr result (λ refused. IsPlanRefused count used.now frame.now pages.now refused) }
+    ensures avoids { IfOk result (λ plan. (kept : Kept) → Covers used.now kept → Avoids count kept plan.blocks) }
+    ensures sound { IfOk result (λ plan. (kept : Kept) (g : Group) → g.frame ≡ frame.now → IsCheckpointed g → ArePagesOf g pages.now → Covers used.now kept → epoch ≡ epoch_after kept → IsSoundAfter count kept g plan.blocks plan.body) }
+{
+    let mut unused = match rebuild(alloc, count, used) {
+        Ok(unused) => unused,
+        Err(NoMemory) => return Err(PlanRefused::NoMemory),
+    };
+    let free = unused.free_count();
+    match plan_in(alloc, &mut unused, epoch, frame, pages) {
+        Ok(Some(plan)) => Ok(plan),
+        Ok(None) => Err(full(alloc, frame, pages, free)),
+        Err(NoMemory) => Err(PlanRefused::NoMemory),
+    }
+}
