@@ -1,0 +1,4 @@
+pub mod Only
+pub mod First
+pub mod Places
+pub mod Numbers
