@@ -1,0 +1,5 @@
+pub mod Apart
+pub mod Cuts
+pub mod Free
+pub mod LowestGap
+pub mod Shown
