@@ -1,0 +1,21 @@
+//! Pipes and socket pairs of a group: the bytes and the messages that wait in them.
+//!
+//! A `PipeTable` is seen as the group's list of pipes with their bytes, a `PairTable` as its list of pairs with the messages
+//! that wait at each end, and either with the room beside. Which ends are open is the caller's to say. Below stand `tables`
+//! and `circular_buffer`, above stand the groups and the system calls.
+#![tactic(auto)]
+
+mod answers;
+mod channel;
+mod ends;
+mod keyed;
+mod pairs;
+mod pipes;
+mod streams;
+#[cfg(test)]
+mod tests;
+
+pub use answers::{Pull, Push, Sending, TableRefused};
+pub use pairs::PairTable;
+pub use pipes::PipeTable;
+pub use streams::{Pair, Pipe};
