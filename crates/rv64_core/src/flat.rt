@@ -89,6 +89,10 @@ fn put(bytes: &mut [u8], address: u64, new: &[u8])
 impl Space for Flat {
     ghost cells = { λ s. flat_cells s.rights.items s.bytes.items };
 
+    ghost table = { λ _. tt };
+
+    ghost landed = { λ _ _ _. tt };
+
     fn fetch(&self, pc: u64) -> Option<u32> {
         match self.number(4, pc, 4) {
             Some(word) => Some(word as u32),

@@ -1,6 +1,6 @@
 //! The private memory of a process.
 
-ghost use Rattle.std.specs.Prelude.{◌≡◌, ℕ, ◌*◌, ◌^◌, ◌<◌, IfOk, OnErr, IfSome, MatchBool, IsTrue};
+ghost use Rattle.std.specs.Prelude.{◌≡◌, ℕ, ◌*◌, ◌^◌, ◌<◌, List, IfOk, OnErr, IfSome, MatchBool, IsTrue};
 ghost use Rattle.std.specs.Option.{option_map};
 ghost use Rattle.rv64_isa.specs.Memory.{Cells, fetched, readable, can_write, stored};
 ghost use Rattle.rv64_isa.specs.Numbers.{bytes_of, number_of};
@@ -13,6 +13,13 @@ use lists::NoMemory;
 pub trait Space {
     /// The cells of private mappings.
     ghost cells: { Self → Cells };
+
+    /// What the layer above keeps behind the cells, and what becomes of it when bytes are stored at an address.
+    ghost Table: { Type 0 } = { Unit {0} };
+
+    ghost table: { Self → Self.Table };
+
+    ghost landed: { Self.Table → ℕ → List ℕ → Self.Table };
 
     /// The word at pc; none where one of its four bytes isn't private or lacks EXEC.
     fn fetch(&self, pc: u64) -> Option<u32>
@@ -31,6 +38,10 @@ pub trait Space {
         ensures ok { IfOk result (λ able. MatchBool able
             (cells self.new ≡ stored (cells self.old) address (bytes_of n value))
             (cells self.new ≡ cells self.old)) }
+        ensures table { IfOk result (λ able. MatchBool able
+            (Self.table self.new ≡ Self.landed (Self.table self.old) address (bytes_of n value))
+            (Self.table self.new ≡ Self.table self.old)) }
         ensures able_first { OnErr result (IsTrue (can_write (cells self.old) address n)) }
-        ensures err { OnErr result (cells self.new ≡ cells self.old) };
+        ensures err { OnErr result (cells self.new ≡ cells self.old) }
+        ensures table_err { OnErr result (Self.table self.new ≡ Self.table self.old) };
 }

@@ -3,7 +3,7 @@
 ghost use Rattle.std.specs.Prelude.{◌≡◌, ℕ, ◌<◌};
 ghost use Rattle.rv64_isa.specs.Memory.{Cells};
 ghost use Rattle.rv64_isa.specs.Instruction.{instruction, effect, ActFits, IsSize};
-ghost use Rattle.rv64_core.specs.Step.{Leaves};
+ghost use Rattle.rv64_core.specs.Step.{Lands, Leaves, StoresNothing};
 
 use crate::local::Local;
 use crate::space::Space;
@@ -12,7 +12,8 @@ use rv64_isa::{Act, Regs, act_at, loaded_value};
 
 /// One step of a process on its private memory, where the step is local.
 pub fn local_step<S: Space>(regs: &mut Regs, space: &mut S) -> Local
-    ensures { Leaves result (instruction (S.cells space.old) regs.old) regs.old (S.cells space.old) regs.new (S.cells space.new) }
+    ensures leaves { Leaves result (instruction (S.cells space.old) regs.old) regs.old (S.cells space.old) regs.new (S.cells space.new) }
+    ensures lands { Lands S.landed result (instruction (S.cells space.old) regs.old) (S.table space.old) (S.table space.new) }
 {
     match space.fetch(regs.pc) {
         None => Local::Shared,
@@ -23,7 +24,8 @@ pub fn local_step<S: Space>(regs: &mut Regs, space: &mut S) -> Local
 /// Does what an instruction asks for, where that is local.
 fn perform<S: Space>(regs: &mut Regs, space: &mut S, act: Act) -> Local
     requires { ActFits act }
-    ensures { Leaves result (effect (S.cells space.old) regs.old act) regs.old (S.cells space.old) regs.new (S.cells space.new) }
+    ensures leaves { Leaves result (effect (S.cells space.old) regs.old act) regs.old (S.cells space.old) regs.new (S.cells space.new) }
+    ensures lands { Lands S.landed result (effect (S.cells space.old) regs.old act) (S.table space.old) (S.table space.new) }
 {
     match act {
         Act::Sets { rd, value } => set(regs, rd, value),
@@ -42,7 +44,8 @@ fn perform<S: Space>(regs: &mut Regs, space: &mut S, act: Act) -> Local
 
 fn set(regs: &mut Regs, rd: u8, value: u64) -> Local
     requires { rd < 32 }
-    ensures { (cells : Cells) → Leaves result (effect cells regs.old (Act.Sets rd value)) regs.old cells regs.new cells }
+    ensures leaves { (cells : Cells) → Leaves result (effect cells regs.old (Act.Sets rd value)) regs.old cells regs.new cells }
+    ensures stores { (cells : Cells) → StoresNothing (effect cells regs.old (Act.Sets rd value)) }
 {
     regs.put(rd, value);
     regs.advance();
@@ -51,7 +54,8 @@ fn set(regs: &mut Regs, rd: u8, value: u64) -> Local
 
 fn jump(regs: &mut Regs, rd: u8, target: u64) -> Local
     requires { rd < 32 }
-    ensures { (cells : Cells) → Leaves result (effect cells regs.old (Act.Jumps rd target)) regs.old cells regs.new cells }
+    ensures leaves { (cells : Cells) → Leaves result (effect cells regs.old (Act.Jumps rd target)) regs.old cells regs.new cells }
+    ensures stores { (cells : Cells) → StoresNothing (effect cells regs.old (Act.Jumps rd target)) }
 {
     if !target.is_multiple_of(4) {
         return Local::Shared;
@@ -63,7 +67,8 @@ fn jump(regs: &mut Regs, rd: u8, target: u64) -> Local
 fn load<S: Space>(regs: &mut Regs, space: &S, rd: u8, address: u64, n: u8, signed: bool) -> Local
     requires register { rd < 32 }
     requires size { IsSize n }
-    ensures { Leaves result (effect (S.cells space.now) regs.old (Act.Loads rd address n signed)) regs.old (S.cells space.now) regs.new (S.cells space.now) }
+    ensures leaves { Leaves result (effect (S.cells space.now) regs.old (Act.Loads rd address n signed)) regs.old (S.cells space.now) regs.new (S.cells space.now) }
+    ensures stores { StoresNothing (effect (S.cells space.now) regs.old (Act.Loads rd address n signed)) }
 {
     match space.load(address, n) {
         Some(loaded) => {
@@ -77,7 +82,8 @@ fn load<S: Space>(regs: &mut Regs, space: &S, rd: u8, address: u64, n: u8, signe
 
 fn store<S: Space>(regs: &mut Regs, space: &mut S, address: u64, n: u8, value: u64) -> Local
     requires { IsSize n }
-    ensures { Leaves result (effect (S.cells space.old) regs.old (Act.Stores address n value)) regs.old (S.cells space.old) regs.new (S.cells space.new) }
+    ensures leaves { Leaves result (effect (S.cells space.old) regs.old (Act.Stores address n value)) regs.old (S.cells space.old) regs.new (S.cells space.new) }
+    ensures lands { Lands S.landed result (effect (S.cells space.old) regs.old (Act.Stores address n value)) (S.table space.old) (S.table space.new) }
 {
     match space.store(address, n, value) {
         Ok(true) => {

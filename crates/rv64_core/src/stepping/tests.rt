@@ -117,6 +117,10 @@ struct Exhausted {
 impl Space for Exhausted {
     ghost cells = { λ s. flat_cells s.flat.rights.items s.flat.bytes.items };
 
+    ghost table = { λ _. tt };
+
+    ghost landed = { λ _ _ _. tt };
+
     fn fetch(&self, pc: u64) -> Option<u32> {
         self.flat.fetch(pc)
     }
