@@ -13,7 +13,7 @@ use Rattle.commit_gate.specs.declared.whole.Block.{Block}
 use Rattle.solo_engine.specs.Plans.{IsLaidOut, metas_for, placed}
 use Rattle.solo_engine.specs.Taking.{AreLaidIn, AreTaken, block_of, blocks_in}
 use Rattle.solo_engine.specs.declared.plan.Page.{Page}
-use Rattle.solo_engine.proofs.Taken.{all_weaker, pairs_of_rise, taken_then}
+use Rattle.solo_engine.proofs.Taken.{all_weaker, behind_both, pairs_of_rise, taken_then}
 
 placed_snoc : (pages : List Page) (blocks : List ℕ) (p : Page) (b : ℕ) → length blocks ≡ length pages → placed (pages ++ p ∷ []) (blocks ++ b ∷ []) ≡ placed pages blocks ++ record { object = p.object; page = p.page; block = b } ∷ []
 unfolding placed
@@ -113,6 +113,7 @@ laid_out count used flags epoch f pages blocks body free are = record {
   numbers_are = are.numbers_are;
   rising = pairs_of_rise (are.places ++ are.metas) are.rising;
   free = all_weaker (λ b. IsTrue (is_free flags b)) (MayBeFree count used) (are.places ++ are.metas) (λ b on. (free b).0 on) are.free;
+  least = λ b may. are.least b ((free b).1 may);
   bytes_are = are.bytes_are;
   body_is = are.body_is;
 }
@@ -135,6 +136,7 @@ laid_in a b c places metas epoch f pages bytes blocks first size one two enough 
       numbers_are = numbers_are;
       rising = both.1;
       free = both.0;
+      least = behind_both a b c places metas one two;
       bytes_are = bytes_are ∙ ap (λ (l : List ℕ). map (λ (p : Page). p.bytes) pages ++ laid l metas) is;
       body_is = ap₂ (body_of epoch) first_is (size_is ∙ ap length is);
     }

@@ -1,5 +1,6 @@
 -- What the blocks of a layout and its body make of a disk that keeps what is kept.
 use Rattle.std.proofs.Common.{◌≡◌, ◌≢◌, inl, inr, ℕ, ◌+◌, ◌-◌, ◌*◌, ◌^◌, ◌<◌, ◌≤◌, List, [], ◌∷◌, ◌++◌, map, length, take, drop, Some, refl, sym, ap, ◌∙◌, subst, arith, length-append, length-take}
+use Rattle.std.specs.Prelude.{◌↔◌}
 use Rattle.std.specs.Int.{w64, to_le_bytes}
 use Rattle.std.specs.List.{AllByRecursion}
 use Rattle.std.proofs.Math.ListN.{replicate}
@@ -12,7 +13,7 @@ use Rattle.group_defs.specs.declared.frame.Frame.{Frame}
 use Rattle.ckpt_chain.specs.Chain.{block, laid, meta_block, first_of, Has, HasBlocks, InDisk}
 use Rattle.ckpt_chain.specs.Slot.{newest}
 use Rattle.ckpt_chain.specs.declared.slot.SlotBody.{SlotBody}
-use Rattle.ckpt_records.specs.Holds.{blocks_of, page_of, AreListed, IsCheckpointed, IsWritten, HoldsAt}
+use Rattle.ckpt_records.specs.Holds.{block_numbers, blocks_of, page_of, AreListed, IsCheckpointed, IsWritten, HoldsAt}
 use Rattle.ckpt_records.specs.Spelling.{record_bytes, front, magic}
 use Rattle.ckpt_records.specs.Spells.{IsOrderly, IsPageOf, IsPlaced as IsPagePlaced, Spells}
 use Rattle.ckpt_records.specs.declared.meta.PagePlace.{PagePlace}
@@ -20,8 +21,8 @@ use Rattle.ckpt_records.proofs.Held.{written_held}
 use Rattle.commit_gate.specs.Whole.{IsPlaced, numbers, finished}
 use Rattle.commit_gate.specs.declared.whole.Block.{Block}
 use Rattle.commit_gate.proofs.Finished.{finished_same}
-use Rattle.solo_engine.specs.Keeping.{Kept, Keeps, Avoids, IsSoundAfter, target_after, epoch_after}
-use Rattle.solo_engine.specs.Plans.{place_of, ArePagesOf, Covers, placed, IsLaidOut}
+use Rattle.solo_engine.specs.Keeping.{Kept, Keeps, Avoids, Covers, IsPlan, target_after, epoch_after}
+use Rattle.solo_engine.specs.Plans.{place_of, ArePagesOf, placed, IsLaidOut}
 use Rattle.solo_engine.specs.declared.plan.Page.{Page}
 use Rattle.solo_engine.proofs.FitsLaws.{few_between, record_fits}
 use Rattle.solo_engine.proofs.FinishedLaws.{IsRising, committed}
@@ -110,6 +111,34 @@ unfolding placed
 places_within count [] places within = tt
 places_within count (p ∷ pages) [] within = tt
 places_within count (p ∷ pages) (b ∷ places) within = (within.0, places_within count pages places within.1)
+
+-- ---- the blocks of pages and of meta blocks
+
+blocks_placed : (pages : List Page) (places : List ℕ) → length places ≡ length pages → block_numbers (placed pages places) ≡ places
+unfolding placed
+blocks_placed [] [] size = refl
+blocks_placed [] (b ∷ places) size = absurd (omega (arith, size))
+blocks_placed (p ∷ pages) [] size = absurd (omega (arith, size))
+blocks_placed (p ∷ pages) (b ∷ places) size = ap (λ (ns : List ℕ). b ∷ ns) (blocks_placed pages places (omega (arith, size)))
+
+has_front : (xs ys : List ℕ) (b : ℕ) → Has b xs → Has b (xs ++ ys)
+has_front [] ys b has = absurd has
+has_front (x ∷ xs) ys b (inl same) = inl same
+has_front (x ∷ xs) ys b (inr has) = inr (has_front xs ys b has)
+
+has_back : (xs ys : List ℕ) (b : ℕ) → Has b ys → Has b (xs ++ ys)
+has_back [] ys b has = has
+has_back (x ∷ xs) ys b has = inr (has_back xs ys b has)
+
+has_swap : (xs ys : List ℕ) (b : ℕ) → Has b (xs ++ ys) → Has b (ys ++ xs)
+has_swap [] ys b has = has_front ys [] b has
+has_swap (x ∷ xs) ys b (inl same) = has_back ys (x ∷ xs) b (inl same)
+has_swap (x ∷ xs) ys b (inr has) = moved x xs ys b (has_swap xs ys b has)
+  where
+    moved : (x : ℕ) (xs ys : List ℕ) (b : ℕ) → Has b (ys ++ xs) → Has b (ys ++ x ∷ xs)
+    moved x xs [] b has = inr has
+    moved x xs (y ∷ ys) b (inl same) = inl same
+    moved x xs (y ∷ ys) b (inr has) = inr (moved x xs ys b has)
 
 -- ---- a layout
 
@@ -227,12 +256,25 @@ module _ (count : ℕ) (used : List ℕ) (epoch : ℕ) (f : Frame) (pages : List
         group = checkpointed;
       }
 
-      holds_after : HoldsAt (finished (target_after kept) blocks body r) (epoch_after kept) g (placed pages l.places) l.metas (target_after kept)
-      holds_after =
-          subst (λ (n : ℕ). HoldsAt (finished (target_after kept) blocks body r) n g (placed pages l.places) l.metas (target_after kept)) epoch_is
-          (written_held (finished (target_after kept) blocks body r) (record_bytes f (placed pages l.places)) epoch g (placed pages l.places) l.metas (target_after kept) written)
+      holds_after : HoldsAt (finished (target_after kept) blocks body r) epoch g (placed pages l.places) l.metas (target_after kept)
+      holds_after = written_held (finished (target_after kept) blocks body r) (record_bytes f (placed pages l.places)) epoch g (placed pages l.places) l.metas (target_after kept) written
 
-  pub laid_is_sound : 16 ≤ count → count ≤ 2 ^ 20 → (kept : Kept) (g : Group) → g.frame ≡ f → IsCheckpointed g → ArePagesOf g pages → Covers used kept → epoch ≡ epoch_after kept → epoch < 2 ^ 64
-      → IsSoundAfter count kept g blocks body
-  laid_is_sound least most kept g same checkpointed are covers epoch_is epoch64 r size keeps =
-      (placed pages l.places, l.metas, holds_after g same checkpointed are least most kept covers epoch_is epoch64 r size keeps)
+  -- the blocks written are those of the places and the meta blocks
+  uses : (b : ℕ) → Has b (numbers blocks) ↔ Has b (l.metas ++ block_numbers (placed pages l.places))
+  uses b = (
+    (λ has. has_swapped l.places l.metas b (subst (Has b) l.numbers_are has) (blocks_placed pages l.places l.enough)),
+    (λ has. subst (Has b) (sym l.numbers_are) (has_swap l.metas l.places b (subst (λ (ns : List ℕ). Has b (l.metas ++ ns)) (blocks_placed pages l.places l.enough) has))),
+  )
+    where
+      has_swapped : (xs ys : List ℕ) (b : ℕ) {zs : List ℕ} → Has b (xs ++ ys) → zs ≡ xs → Has b (ys ++ zs)
+      has_swapped xs ys b has same = subst (λ (ns : List ℕ). Has b (ys ++ ns)) (sym same) (has_swap xs ys b has)
+
+  pub laid_plan : 16 ≤ count → count ≤ 2 ^ 20 → (g : Group) → g.frame ≡ f → IsCheckpointed g → ArePagesOf g pages → epoch < 2 ^ 64 → IsPlan count used epoch g blocks body
+  laid_plan least most g same checkpointed are epoch64 = record {
+    pages = placed pages l.places;
+    metas = l.metas;
+    uses = uses;
+    placed = all_placed;
+    avoids = laid_avoids;
+    sound = λ kept covers epoch_is r size keeps. holds_after g same checkpointed are least most kept covers epoch_is epoch64 r size keeps;
+  }

@@ -5,6 +5,7 @@ use Rattle.std.specs.List.{AllByRecursion, AllPairs}
 use Rattle.std.proofs.lemmas.Bool.{cases_eq, cases_lt}
 use Rattle.std.proofs.lemmas.List.{get_or-set_same, get_or-set_other, get_or_past, length-set}
 use Rattle.block_alloc.specs.Free.{is_free, with_used, IsLeastFree}
+use Rattle.ckpt_chain.specs.Chain.{Has}
 use Rattle.solo_engine.specs.Taking.{AreTaken, Rise}
 
 pub all_append : (P : ℕ → Type 0) (xs ys : List ℕ) → AllByRecursion P xs → AllByRecursion P ys → AllByRecursion P (xs ++ ys)
@@ -42,7 +43,7 @@ pairs_of_rise (x ∷ xs) rise (suc i) (suc j) d lt end = pairs_of_rise xs rise.1
 -- ---- taking
 
 pub none_taken : (flags : List Bool) → AreTaken flags [] flags
-none_taken flags = record { free = tt; rising = tt; left = λ b free. (free, tt) }
+none_taken flags = record { free = tt; rising = tt; left = λ b free. (free, tt); others = λ b free. inr free }
 
 -- what is taken isn't free any more
 no_longer : (flags : List Bool) (b : ℕ) → is_free (with_used flags b) b ≡ false
@@ -65,6 +66,23 @@ behind flags taken b least on = of (cases_eq b taken)
         let was : IsTrue (is_free flags b) = sym (get_or-set_other flags taken b false false other) ∙ on in
         elim (cases_lt b taken) [ inl below ↦ absurd (absurd_free flags b (least.least b below) was) | inr above ↦ (was, omega (arith, above, other)) ]
 
+-- a block that was free is the one taken, or still free
+still_free : (flags : List Bool) (taken b : ℕ) → IsTrue (is_free flags b) → (taken ≡ b) ⊎ IsTrue (is_free (with_used flags taken) b)
+still_free flags taken b was = of (cases_eq b taken)
+  where
+    of : (b ≡ taken) ⊎ (b ≢ taken) → (taken ≡ b) ⊎ IsTrue (is_free (with_used flags taken) b)
+    of (inl same) = inl (sym same)
+    of (inr other) = inr (get_or-set_other flags taken b false false other ∙ was)
+
+has_front : (xs ys : List ℕ) (b : ℕ) → Has b xs → Has b (xs ++ ys)
+has_front [] ys b has = absurd has
+has_front (x ∷ xs) ys b (inl same) = inl same
+has_front (x ∷ xs) ys b (inr has) = inr (has_front xs ys b has)
+
+has_back : (xs ys : List ℕ) (b : ℕ) → Has b ys → Has b (xs ++ ys)
+has_back [] ys b has = has
+has_back (x ∷ xs) ys b has = inr (has_back xs ys b has)
+
 pub one_taken : (old flags flags' : List Bool) (taken taken' : List ℕ) (b : ℕ) → AreTaken old taken flags → IsLeastFree flags b → flags' ≡ with_used flags b → taken' ≡ taken ++ b ∷ [] → AreTaken old taken' flags'
 one_taken old flags flags' taken taken' b are least is more =
     let here = are.left b least.free in
@@ -72,6 +90,10 @@ one_taken old flags flags' taken taken' b are least is more =
       free = all_append (λ b. IsTrue (is_free old b)) taken (b ∷ []) are.free (here.0, tt);
       rising = rise_append taken (b ∷ []) are.rising (tt, tt) (here.1, tt);
       left = λ k on. let was = behind flags b k least on in let before = are.left k was.0 in (before.0, all_append (λ t. t < k) taken (b ∷ []) before.1 (was.1, tt));
+      others = λ k on. elim (are.others k on) [
+        | inl has ↦ inl (has_front taken (b ∷ []) k has)
+        | inr now ↦ elim (still_free flags b k now) [ inl same ↦ inl (has_back taken (b ∷ []) k (inl same)) | inr later ↦ inr later ]
+      ];
     }))
 
 -- taken, and taken from the rest
@@ -80,3 +102,13 @@ taken_then a b c xs ys first second = (
   all_append (λ n. IsTrue (is_free a n)) xs ys first.free (all_weaker (λ n. IsTrue (is_free b n)) (λ n. IsTrue (is_free a n)) ys (λ n on. (first.left n on).0) second.free),
   rise_append xs ys first.rising second.rising (all_weaker (λ n. IsTrue (is_free b n)) (λ n. AllByRecursion (λ t. t < n) xs) ys (λ n on. (first.left n on).1) second.free),
 )
+
+-- a block that was free and isn't taken is behind all that are
+pub behind_both : (a b c : List Bool) (xs ys : List ℕ) → AreTaken a xs b → AreTaken b ys c → (n : ℕ) → IsTrue (is_free a n) → Has n (xs ++ ys) ⊎ AllByRecursion (λ t. t < n) (xs ++ ys)
+behind_both a b c xs ys first second n on = elim (first.others n on) [
+  | inl has ↦ inl (has_front xs ys n has)
+  | inr mid ↦ elim (second.others n mid) [
+    | inl has ↦ inl (has_back xs ys n has)
+    | inr late ↦ inr (all_append (λ t. t < n) xs ys (first.left n mid).1 (second.left n late).1)
+  ]
+]

@@ -1,5 +1,5 @@
 -- What a disk keeps while a commit goes on, and what the commit puts in its place.
-use Rattle.std.specs.Prelude.{◌≡◌, ◌⊎◌, ◌+◌, ◌*◌, ℕ, List, [], ◌++◌, length, None}
+use Rattle.std.specs.Prelude.{◌≡◌, ◌⊎◌, ◌↔◌, ◌+◌, ◌*◌, ℕ, List, [], ◌++◌, length, None}
 use Rattle.std.specs.List.{AllByRecursion}
 use Rattle.group_defs.specs.Group.{Group}
 use Rattle.ckpt_chain.specs.Chain.{Has}
@@ -56,3 +56,18 @@ IsSoundAfter count kept h blocks body =
 abbrev pub KeepsOrHolds : Kept → Group → List ℕ → Type 0
 KeepsOrHolds kept h image =
     Keeps image kept ⊎ ((pages : List PagePlace) × (metas : List ℕ) × HoldsAt image (epoch_after kept) h pages metas (target_after kept))
+
+-- The blocks in use have those of what is kept.
+abbrev pub Covers : List ℕ → Kept → Type 0
+Covers used kept = (b : ℕ) → Has b (used_by kept) → Has b used
+
+-- The plan of a group's commit as this epoch: its pages and its meta blocks lie in the blocks written, which avoid those in
+-- use; on every disk of so many blocks whose kept checkpoint uses only blocks in use, it is the group's once it is finished.
+pub record IsPlan (count : ℕ) (used : List ℕ) (epoch : ℕ) (g : Group) (blocks : List Block) (body : SlotBody) : Type 0 where
+  pub pages : List PagePlace
+  pub metas : List ℕ
+  pub uses : (b : ℕ) → Has b (numbers blocks) ↔ Has b (metas ++ block_numbers pages)
+  pub placed : AllByRecursion (IsPlaced count) blocks
+  pub avoids : (kept : Kept) → Covers used kept → Avoids count kept blocks
+  pub sound : (kept : Kept) → Covers used kept → epoch ≡ epoch_after kept → (r : List ℕ) → length r ≡ 4096 * count → Keeps r kept
+      → HoldsAt (finished (target_after kept) blocks body r) epoch g pages metas (target_after kept)

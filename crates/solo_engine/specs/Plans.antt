@@ -1,5 +1,5 @@
 -- What a commit writes for a group.
-use Rattle.std.specs.Prelude.{◌↔◌, Bool, IsTrue, ⊤, ◌≡◌, ◌<◌, ◌+◌, ◌/◌, ℕ, List, [], ◌∷◌, ◌++◌, length, map}
+use Rattle.std.specs.Prelude.{◌⊎◌, ◌↔◌, Bool, IsTrue, ⊤, ◌≡◌, ◌<◌, ◌+◌, ◌/◌, ℕ, List, [], ◌∷◌, ◌++◌, length, map}
 use Rattle.std.specs.List.{AllByRecursion, AllPairs}
 use Rattle.group_defs.specs.Group.{Group}
 use Rattle.group_defs.specs.Touched.{page_bytes, nonzero_pages}
@@ -11,7 +11,6 @@ use Rattle.ckpt_records.specs.Spelling.{record_bytes}
 use Rattle.ckpt_records.specs.declared.meta.PagePlace.{PagePlace}
 use Rattle.commit_gate.specs.Whole.{numbers}
 use Rattle.commit_gate.specs.declared.whole.Block.{Block}
-use Rattle.solo_engine.specs.Keeping.{Kept, used_by}
 use Rattle.solo_engine.specs.declared.plan.Page.{Page}
 use Rattle.solo_engine.specs.declared.plan.PlanRefused.{PlanRefused}
 use Rattle.solo_engine.specs.declared.plan.PlanRefused.TheVariants as refusals
@@ -25,10 +24,6 @@ pub record ArePagesOf (g : Group) (pages : List Page) : Type 0 where
   pub which : map place_of pages ≡ nonzero_pages g
   pub bytes : AllByRecursion (λ p. p.bytes ≡ page_bytes g.memory (place_of p)) pages
 
--- the blocks in use have those of what is kept
-abbrev pub Covers : List ℕ → Kept → Type 0
-Covers used kept = (b : ℕ) → Has b (used_by kept) → Has b used
-
 -- how many meta blocks so many bytes take
 abbrev pub metas_for : ℕ → ℕ
 metas_for size = (size + 4087) / 4088
@@ -39,7 +34,7 @@ placed [] blocks = []
 placed (p ∷ pages) [] = []
 placed (p ∷ pages) (b ∷ blocks) = record { object = p.object; page = p.page; block = b } ∷ placed pages blocks
 
--- The pages lie in free blocks, and behind them the meta blocks of the record that says so; the body names them.
+-- The pages lie in the least free blocks, and behind them the meta blocks of the record that says so; the body names them.
 pub record IsLaidOut (count : ℕ) (used : List ℕ) (epoch : ℕ) (f : Frame) (pages : List Page) (blocks : List Block) (body : SlotBody) : Type 0 where
   pub places : List ℕ
   pub metas : List ℕ
@@ -48,6 +43,8 @@ pub record IsLaidOut (count : ℕ) (used : List ℕ) (epoch : ℕ) (f : Frame) (
   pub numbers_are : numbers blocks ≡ places ++ metas
   pub rising : AllPairs (λ m n. m < n) (places ++ metas)
   pub free : AllByRecursion (MayBeFree count used) (places ++ metas)
+  -- a free block that isn't taken is behind all that are
+  pub least : (b : ℕ) → MayBeFree count used b → Has b (places ++ metas) ⊎ AllByRecursion (λ t. t < b) (places ++ metas)
   pub bytes_are : map (λ b. b.bytes) blocks ≡ map (λ p. p.bytes) pages ++ laid (record_bytes f (placed pages places)) metas
   pub body_is : body ≡ record { epoch = epoch; first = first_of metas; length = length (record_bytes f (placed pages places)) }
 

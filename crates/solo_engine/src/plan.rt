@@ -7,8 +7,8 @@ ghost use Rattle.ckpt_records.specs.Spelling.{record_bytes};
 ghost use Rattle.commit_gate.specs.Whole.{numbers};
 ghost use Rattle.ckpt_records.specs.Holds.{IsCheckpointed};
 ghost use Rattle.group_defs.specs.Group.{Group};
-ghost use Rattle.solo_engine.specs.Keeping.{Avoids, IsSoundAfter, Kept, epoch_after};
-ghost use Rattle.solo_engine.specs.Plans.{ArePagesOf, Covers, IsLaidOut, IsPlanRefused, needs, placed};
+ghost use Rattle.solo_engine.specs.Keeping.{Avoids, Covers, IsPlan, Kept};
+ghost use Rattle.solo_engine.specs.Plans.{ArePagesOf, IsLaidOut, IsPlanRefused, needs, placed};
 ghost use Rattle.solo_engine.specs.Taking.{AreLaidIn, AreTaken, blocks_in};
 ghost use Rattle.std.specs.List.{AllByRecursion};
 
@@ -228,7 +228,7 @@ pub fn plan_commit(
     ensures laid { IfOk result (λ plan. IsLaidOut count used.now epoch frame.now pages.now plan.blocks plan.body) }
     ensures refused { IfErr result (λ refused. IsPlanRefused count used.now frame.now pages.now refused) }
     ensures avoids { IfOk result (λ plan. (kept : Kept) → Covers used.now kept → Avoids count kept plan.blocks) }
-    ensures sound { IfOk result (λ plan. (kept : Kept) (g : Group) → g.frame ≡ frame.now → IsCheckpointed g → ArePagesOf g pages.now → Covers used.now kept → epoch ≡ epoch_after kept → IsSoundAfter count kept g plan.blocks plan.body) }
+    ensures plan { IfOk result (λ plan. (g : Group) → g.frame ≡ frame.now → IsCheckpointed g → ArePagesOf g pages.now → IsPlan count used.now epoch g plan.blocks plan.body) }
 {
     let mut unused = match rebuild(alloc, count, used) {
         Ok(unused) => unused,

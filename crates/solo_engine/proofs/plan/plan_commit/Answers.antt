@@ -2,7 +2,7 @@ use Rattle.solo_engine.specs.Plans.{IsLaidOut}
 use Rattle.solo_engine.specs.Taking.{AreLaidIn}
 use Rattle.solo_engine.specs.declared.plan.Plan.{Plan}
 use Rattle.solo_engine.proofs.Laying.{laid_out, of_some}
-use Rattle.solo_engine.proofs.LayoutLaws.{laid_avoids, laid_is_sound}
+use Rattle.solo_engine.proofs.LayoutLaws.{laid_avoids, laid_plan}
 use Rattle.solo_engine.proofs.plan.plan_commit.Goals as goal
 
 pub returns-in-Ok-Some : goal.returns-in-Ok-Some
@@ -14,5 +14,5 @@ returns-in-Ok-Some c =
       laid = out;
       refused = tt;
       avoids = λ kept covers. laid_avoids c.args.count c.args.used.now c.args.epoch c.args.frame.now c.args.pages.now plan.blocks plan.body c.requires.whole out kept covers;
-      sound = λ kept g same checkpointed are covers epoch_is. laid_is_sound c.args.count c.args.used.now c.args.epoch c.args.frame.now c.args.pages.now plan.blocks plan.body c.requires.whole out c.requires.least c.requires.most kept g same checkpointed are covers epoch_is c.ranges.epoch.fits;
+      plan = λ g same checkpointed are. laid_plan c.args.count c.args.used.now c.args.epoch c.args.frame.now c.args.pages.now plan.blocks plan.body c.requires.whole out c.requires.least c.requires.most g same checkpointed are c.ranges.epoch.fits;
     }

@@ -1,0 +1,132 @@
+-- The start of a run, as the engine has it.
+use Rattle.std.proofs.Common.{◌≡◌, inl, inr, ℕ, ◌+◌, ◌^◌, ◌≤◌, ◌∙◌, List, [], ◌++◌, Option, None, refl, ap, subst, sym, arith}
+use Rattle.std.specs.Option.{ForSome}
+use Rattle.dev_traits.specs.Disk.{DiskView, OnlyReading}
+use Rattle.dev_traits.specs.Outside.{SinkView}
+use Rattle.group_defs.specs.declared.frame.Out.{Out}
+use Rattle.group_defs.specs.declared.run.AckMark.{AckMark}
+use Rattle.group_defs.specs.declared.run.Limits.{Limits}
+use Rattle.group_defs.specs.declared.run.Mark.{Mark}
+use Rattle.group_defs.specs.Group.{Group}
+use Rattle.group_defs.specs.Output.{last_position}
+use Rattle.ckpt_chain.specs.Chain.{Has}
+use Rattle.ckpt_chain.specs.Slot.{newest}
+use Rattle.ckpt_records.specs.Holds.{HoldsAt, IsCheckpointed, block_numbers}
+use Rattle.ckpt_records.specs.declared.origin.Origin.{Origin}
+use Rattle.restore_group.specs.Parts.{group_of}
+use Rattle.solo_engine.specs.Answers.{HasRun}
+use Rattle.solo_engine.specs.Engine.{group_in}
+use Rattle.solo_engine.specs.Interval.{IsFirstKept, ReleasesPart, ReleasesRest}
+use Rattle.solo_engine.specs.Keeping.{Keeps, Kept, nothing, checkpoint, epoch_after, other, target_after, used_by}
+use Rattle.solo_engine.specs.Known.{IsKeptOf, Knows, KnowsGates}
+use Rattle.solo_engine.specs.Origin.{IsOrigin, IsOriginOf, IsUnworn, IsWithin, LimitsFit}
+use Rattle.solo_engine.specs.Safe.{run_of}
+use Rattle.solo_engine.specs.declared.engine_group.EngineGroup.{EngineGroup}
+use Rattle.solo_engine.specs.declared.kept.KeptBlocks.{KeptBlocks}
+use Rattle.solo_engine.specs.declared.run.RunAnswer.TheVariants.{NoMemory, SinkFault}
+use Rattle.solo_engine.proofs.EngineLaws.{out_in}
+use Rattle.solo_engine.proofs.Goes.{IsGoing, IsStart, goes_first, unbegun, unreleased_first}
+
+-- a run's start has its limits and its room
+pub is_start : (limits : Limits) (g : EngineGroup) (epoch : ℕ) → LimitsFit limits → IsCheckpointed (group_in g) → epoch ≤ 2 ^ 62 → last_position g.out ≤ 2 ^ 62 → IsStart limits (group_in g) epoch
+is_start limits g epoch fit checkpointed few near = record {
+  every = fit.every.0;
+  turns = fit.turns.1;
+  checkpointed = checkpointed;
+  epoch = few;
+  position = subst (λ (o : Out). last_position o ≤ 2 ^ 62) (sym (out_in g)) near;
+}
+
+module _ (limits : Limits) (g : EngineGroup) (k : KeptBlocks) (s : IsStart limits (group_in g) k.epoch) (disk : DiskView) (out : SinkView) (only : OnlyReading disk)
+    (kept : (x : Kept) × Knows k x × IsFirstKept (group_in g) x × ForSome disk.reading (λ r. Keeps r x))
+    (least : g.out.from ≤ out.count) (most : out.count ≤ last_position g.out) (trace : List Mark) (acks : List AckMark) (unlogged : (trace ≡ []) × (acks ≡ [])) where
+  from_first : (group_in g).frame.out.from ≤ out.count
+  from_first = subst (λ (o : Out). o.from ≤ out.count) (sym (out_in g)) least
+
+  to_last : out.count ≤ last_position (group_in g).frame.out
+  to_last = subst (λ (o : Out). out.count ≤ last_position o) (sym (out_in g)) most
+
+  pub fails_first : (out' : SinkView) → ReleasesPart g.out out out' → HasRun (run_of limits (group_in g) k.epoch trace) acks disk disk out out' SinkFault
+  fails_first out' part =
+      let there = subst (λ (o : Out). ReleasesPart o out out') (sym (out_in g)) part in
+      let P : List Mark → List AckMark → Type 0 = λ t a. HasRun (run_of limits (group_in g) k.epoch t) a disk disk out out' SinkFault in
+      let none : P [] [] = unreleased_first limits (group_in g) k.epoch s disk out only kept.0 kept.1.epoch kept.2 kept.3 from_first to_last out' there in
+      subst (λ (t : List Mark). P t acks) (sym unlogged.0) (subst (λ (a : List AckMark). P [] a) (sym unlogged.1) none)
+
+  pub begins_on : (out' : SinkView) (made : ℕ) → made ≡ 0 → ForSome disk.reading (λ r. KnowsGates k r) → ReleasesRest g.out out out' → IsGoing limits (group_in g) k.epoch disk out (group_in g) k made trace acks disk out'
+  begins_on out' made first gates rest =
+      let there = subst (λ (o : Out). ReleasesRest o out out') (sym (out_in g)) rest in
+      let P : ℕ → List Mark → List AckMark → Type 0 = λ n t a. IsGoing limits (group_in g) k.epoch disk out (group_in g) k n t a disk out' in
+      let none : P 0 [] [] = goes_first limits (group_in g) k s disk out only kept.0 kept.1 kept.2 kept.3 from_first to_last out' gates there in
+      subst (λ (n : ℕ). P n trace acks) (sym first) (subst (λ (t : List Mark). P 0 t acks) (sym unlogged.0) (subst (λ (a : List AckMark). P 0 [] a) (sym unlogged.1) none))
+
+-- ---- what an origin's disk keeps
+
+-- of a kept checkpoint, or of nothing, what the origin's placement says
+record IsKeptFor (o : Origin) (reading : Option (List ℕ)) : Type 0 where
+  kept : Kept
+  next : epoch_after kept ≡ o.epoch + 1
+  used : used_by kept ≡ o.placement.metas ++ block_numbers o.placement.pages
+  target : target_after kept ≡ other o.placement.slot
+  first : IsFirstKept (group_of o.parts) kept
+  keeps : ForSome reading (λ r. Keeps r kept)
+
+no_held : (o : Origin) (r : List ℕ) → o.epoch ≡ 0 → IsOriginOf r o → newest r ≡ None
+no_held o r zero (inl held) = absurd (omega (arith, zero, held.0))
+no_held o r zero (inr none) = none.1
+
+is_held : (o : Origin) (r : List ℕ) → 1 ≤ o.epoch → IsOriginOf r o → HoldsAt r o.epoch (group_of o.parts) o.placement.pages o.placement.metas o.placement.slot
+is_held o r some (inl held) = held.1.held
+is_held o r some (inr none) = absurd (omega (arith, some, none.0))
+
+kept_for : (count : ℕ) (o : Origin) (reading : Option (List ℕ)) → IsOrigin count o → ForSome reading (λ r. IsOriginOf r o) → IsKeptFor o reading
+kept_for count o reading (inl new) of = record {
+  kept = nothing;
+  next = omega (arith, new.epoch);
+  used = sym (ap (λ (l : List ℕ). l ++ block_numbers o.placement.pages) new.no_metas ∙ ap block_numbers new.no_pages);
+  target = ap other (sym new.slot);
+  first = tt;
+  keeps = λ r told. no_held o r new.epoch (of r told);
+}
+kept_for count o reading (inr sound) of = record {
+  kept = checkpoint o.epoch (group_of o.parts) o.placement.pages o.placement.metas o.placement.slot;
+  next = refl;
+  used = refl;
+  target = refl;
+  first = refl;
+  keeps = λ r told. is_held o r sound.epoch (of r told);
+}
+
+pub knows_kept : (count : ℕ) (o : Origin) (reading : Option (List ℕ)) (k : KeptBlocks) (g : Group) → IsOrigin count o → ForSome reading (λ r. IsOriginOf r o) → IsKeptOf o k → g ≡ group_of o.parts
+    → (x : Kept) × Knows k x × IsFirstKept g x × ForSome reading (λ r. Keeps r x)
+knows_kept count o reading k g origin of known same =
+    let f = kept_for count o reading origin of in
+    let lists : k.used.items ≡ used_by f.kept = known.used ∙ sym f.used in (
+      f.kept,
+      record {
+        epoch = f.next ∙ ap (λ (n : ℕ). n + 1) (sym known.epoch);
+        used = λ b. ((λ has. subst (Has b) lists has), (λ has. subst (Has b) (sym lists) has));
+        target = f.target ∙ sym known.target;
+      },
+      subst (λ (x : Group). IsFirstKept x f.kept) (sym same) f.first,
+      f.keeps,
+    )
+
+-- the group of an origin may be a checkpoint's
+pub origin_checkpointed : (count : ℕ) (o : Origin) → IsOrigin count o → IsCheckpointed (group_of o.parts)
+origin_checkpointed count o (inl new) = new.group
+origin_checkpointed count o (inr sound) = sound.group
+
+-- memory ran out before the run began
+pub ends_unbegun : (limits : Limits) (count : ℕ) (o : Origin) (disk : DiskView) (out : SinkView) → LimitsFit limits → IsOrigin count o → ForSome disk.reading (λ r. IsOriginOf r o) → IsUnworn o → IsWithin out o → OnlyReading disk
+    → HasRun (run_of limits (group_of o.parts) o.epoch []) [] disk disk out out NoMemory
+ends_unbegun limits count o disk out fit origin of unworn within only =
+    let f = kept_for count o disk.reading origin of in
+    let s : IsStart limits (group_of o.parts) o.epoch = record {
+      every = fit.every.0;
+      turns = fit.turns.1;
+      checkpointed = origin_checkpointed count o origin;
+      epoch = unworn.epoch;
+      position = unworn.output;
+    } in
+    unbegun limits (group_of o.parts) o.epoch s disk out only f.kept f.next f.first f.keeps within.0 within.1

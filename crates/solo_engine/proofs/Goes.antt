@@ -1,0 +1,634 @@
+-- A run between two of its intervals, and what each part of the next one makes of it.
+use Rattle.std.proofs.Common.{◌≡◌, ◌≢◌, ◌⊎◌, inl, inr, ⊎_elim, ℕ, zero, suc, ◌+◌, ◌-◌, ◌*◌, ◌^◌, ◌<◌, ◌≤◌, ◌==◌, ◌||◌, Bool, true, false, List, [], ◌∷◌, ◌++◌, map, length, take, drop, Option, Some, None, IsTrue, refl, sym, ap, subst, ◌∙◌, arith, append-nil, append_assoc, length-append, length-drop}
+use Rattle.std.specs.Prelude.{◌↔◌, IfSome}
+use Rattle.std.specs.List.{list_any, filter_map, AllByRecursion}
+use Rattle.std.specs.Option.{ForSome, option_map}
+use Rattle.std.proofs.lemmas.List.{take_all}
+use Rattle.std.proofs.lemmas.List.Folds.{list_any-append}
+use Rattle.std.proofs.lemmas.List.Elements.{filter_map-append}
+use Rattle.dev_traits.specs.Counts.{Rose}
+use Rattle.dev_traits.specs.Disk.{DiskView, LeftNow, OnlyReading}
+use Rattle.dev_traits.specs.Since.{LeavesOnly}
+use Rattle.dev_traits.specs.Outside.{SinkView, Takes}
+use Rattle.group_defs.specs.declared.run.AckMark.{AckMark}
+use Rattle.group_defs.specs.declared.run.Limits.{Limits}
+use Rattle.group_defs.specs.declared.run.Mark.{Mark}
+use Rattle.group_defs.specs.declared.run.Mark.TheVariants.{Take, Turn, Barrier, Fetch, Ack}
+use Rattle.group_defs.specs.Ends.{IsDone, IsStuck, IsSpent}
+use Rattle.group_defs.specs.Group.{Group}
+use Rattle.group_defs.specs.Legal.{ready}
+use Rattle.group_defs.specs.Output.{last_position}
+use Rattle.group_defs.specs.Solo.{IsSoloSoFar, IsSoloTrace}
+use Rattle.group_defs.specs.Trace.{IsGroupOf, barrier, group_after, is_ack_of, is_barrier_of, is_fetch_of, group_of, mark_of, output}
+use Rattle.group_defs.specs.Valid.{OutValid}
+use Rattle.block_alloc.specs.Free.{MayBeFree}
+use Rattle.ckpt_chain.specs.Chain.{Has}
+use Rattle.ckpt_chain.specs.Slot.{gate_place, newest}
+use Rattle.ckpt_chain.specs.declared.slot.Slot.{Slot}
+use Rattle.ckpt_chain.specs.declared.slot.SlotBody.{SlotBody}
+use Rattle.ckpt_records.specs.Holds.{Holds, HoldsAt, IsCheckpointed, block_numbers}
+use Rattle.commit_gate.specs.Whole.{IsPlaced, Reads, finished, numbers}
+use Rattle.commit_gate.specs.declared.whole.Block.{Block}
+use Rattle.solo_engine.specs.Answers.{EndsFor, HasFree, HasRun, IsDiskFull, StandsSafe, cost_of}
+use Rattle.solo_engine.specs.Going.{StandsAt, acked_epoch, fetched, acknowledged, output_between}
+use Rattle.solo_engine.specs.Interval.{EndsIn, IsCommitted, IsDue, IsFetched, IsFirstKept, IsLonger, IsReady, IsUncommitted, IsUnplanned, LeavesKept, NeedsMore, ReleasesPart, ReleasesRest, StopsTurning, rest_of}
+use Rattle.solo_engine.specs.Keeping.{Kept, nothing, checkpoint, Covers, Keeps, KeepsOrHolds, IsPlan, epoch_after, other, target_after, used_by}
+use Rattle.solo_engine.specs.Known.{IsAfter, Knows, KnowsGates, gate_in}
+use Rattle.solo_engine.specs.Safe.{AreAcks, HoldsOne, IsUnwritten, KeepsLast, IsWhole, Released, Run, Safe, is_fetch, last_acked, run_of}
+use Rattle.solo_engine.specs.declared.interval.Ready.{Ready}
+use Rattle.solo_engine.specs.declared.kept.KeptBlocks.{KeptBlocks}
+use Rattle.solo_engine.specs.declared.run.RunAnswer.{RunAnswer}
+use Rattle.solo_engine.specs.declared.run.RunAnswer.TheVariants.{Done, Stuck, Spent, DiskFault, SinkFault, DiskFull, NoMemory}
+use Rattle.solo_engine.proofs.Between.{any_more, barrier_found, barrier_made_on, begins, ends_done, ends_spent, ends_stuck, fetched_on, goes_on, group_of_barrier, group_of_more, group_of_origin, last_spent, settled}
+use Rattle.solo_engine.proofs.GateLaws.{gates_after}
+use Rattle.solo_engine.proofs.Outputs.{barrier_reaches, between_none, last_is, mark_above, mark_below, mark_of_group, released as released_piece, start_released}
+use Rattle.solo_engine.proofs.Pieces.{takes_none}
+use Rattle.solo_engine.proofs.Standing.{IsCommitting, IsKeptAt, IsKeptBy, Reached, acks_below, acks_later, acks_longer, acks_more, first_before, kept_acked, kept_longer, longer, one_during, one_longer, reached_longer, reached_more, released, safe_acked, safe_during, safe_longer}
+
+-- what a run needs of its start and its limits
+pub record IsStart (limits : Limits) (start : Group) (origin : ℕ) : Type 0 where
+  pub every : 1 ≤ limits.every
+  pub turns : limits.turns ≤ 1000000
+  pub checkpointed : IsCheckpointed start
+  pub epoch : origin ≤ 2 ^ 62
+  pub position : last_position start.frame.out ≤ 2 ^ 62
+
+-- between two intervals
+pub record IsGoing (limits : Limits) (start : Group) (origin : ℕ) (disk0 : DiskView) (out0 : SinkView) (g : Group) (k : KeptBlocks) (made : ℕ) (trace : List Mark) (acks : List AckMark) (disk : DiskView) (out : SinkView) : Type 0 where
+  pub stands : StandsAt start origin limits trace g made 0 k.epoch
+  pub checkpointed : IsCheckpointed g
+  pub position : last_position g.frame.out ≤ 2 ^ 62 + 1048576 * made
+  pub epochs : k.epoch ≤ 2 ^ 62 + made
+  pub within : made ≤ limits.turns
+  pub safe : StandsSafe (run_of limits start origin trace) acks disk0 disk out0 out
+  pub disk_faults : disk0.faults ≤ disk.faults
+  pub out_faults : out0.faults ≤ out.faults
+  pub told : (r : List ℕ) → disk0.reading ≡ Some r → (now : List ℕ) × (disk.reading ≡ Some now)
+  pub only : OnlyReading disk
+  pub gates : ForSome disk.reading (λ r. KnowsGates k r)
+  pub kept : Kept
+  pub knows : Knows k kept
+  pub keeps : ForSome disk.reading (λ r. Keeps r kept)
+  pub kept_is : IsKeptBy (run_of limits start origin trace) acks kept
+  -- no turn was made since the last barrier, which was acknowledged
+  pub group_is : IsGroupOf limits.quantum start origin trace k.epoch g
+  pub last : last_acked (run_of limits start origin trace) acks ≡ k.epoch
+  pub reached : Reached (run_of limits start origin trace) out0 out g.frame.out.mark
+  pub out_at : out.count ≡ g.frame.out.mark
+
+rose_later : (a b c : ℕ) → a ≤ b → Rose b c → Rose a c
+rose_later a b c le rose = omega (arith, le, rose)
+
+-- ---- a start's output
+
+module _ (limits : Limits) (start : Group) (origin : ℕ) (s : IsStart limits start origin) where
+  out_valid : (start.frame.out.from ≤ start.frame.out.mark) × (start.frame.out.mark ≤ last_position start.frame.out)
+  unfolding OutValid
+  out_valid = (s.checkpointed.valid.frame.out.0, s.checkpointed.valid.frame.out.1)
+
+  pub prefix_of : (trace : List Mark) → IsSoloSoFar start origin limits trace → (acks : List AckMark) (disk0 disk : DiskView) (out0 out : SinkView) (answer : RunAnswer)
+      → StandsSafe (run_of limits start origin trace) acks disk0 disk out0 out → ((answer ≡ DiskFault → ⊥) → ForSome disk0.reading (λ r. (image : List ℕ) → LeftNow disk image → KeepsLast (run_of limits start origin trace) acks image))
+      → EndsFor (run_of limits start origin trace) disk0 disk out0 out answer → HasRun (run_of limits start origin trace) acks disk0 disk out0 out answer
+  prefix_of trace so_far acks disk0 disk out0 out answer safe current ends = record {
+    legal = so_far.legal;
+    order = goes_on start origin limits trace out_valid.0 s.checkpointed.all_marked s.every so_far;
+    stands = safe;
+    current = current;
+    ends = ends;
+  }
+
+-- a block that may be free of those in use may be free of what is kept
+may_be : (count blocks : ℕ) (k : KeptBlocks) (kept : Kept) → count ≡ blocks → Knows k kept → (b : ℕ) {X : Type 0} → X ↔ MayBeFree count k.used.items b → X ↔ MayBeFree blocks (used_by kept) b
+may_be count blocks k kept same knows b either = (
+  (λ x. let m = either.0 x in record { least = m.least; most = omega (arith, m.most, same); unused = free_of (used_by kept) b (λ has. not_has k.used.items b m.unused ((knows.used b).1 has)) }),
+  (λ m. either.1 (record { least = m.least; most = omega (arith, m.most, same); unused = free_of k.used.items b (λ has. not_has (used_by kept) b m.unused ((knows.used b).0 has)) })),
+)
+  where
+    not_has : (used : List ℕ) (b : ℕ) → AllByRecursion (λ u. u ≢ b) used → Has b used → ⊥
+    not_has [] b all has = has
+    not_has (u ∷ used) b all (inl e) = all.0 e
+    not_has (u ∷ used) b all (inr has) = not_has used b all.1 has
+
+    free_of : (used : List ℕ) (b : ℕ) → (Has b used → ⊥) → AllByRecursion (λ u. u ≢ b) used
+    free_of [] b none = tt
+    free_of (u ∷ used) b none = ((λ e. none (inl e)), free_of used b (λ has. none (inr has)))
+
+-- ---- the trace grows, and neither the disk nor the output changes
+
+any_false : (p : Mark → Bool) (a b : List Mark) → list_any p (a ++ b) ≡ false → list_any p a ≡ false
+any_false p a b none = either (list_any p a) (list_any p b) (sym (list_any-append p a b) ∙ none)
+  where
+    either : (x y : Bool) → (x || y) ≡ false → x ≡ false
+    either true y e = absurd (cc)
+    either false y e = refl
+
+stands_longer : (run : Run) (more : List Mark) (acks : List AckMark) (disk0 disk : DiskView) (out0 out : SinkView) → filter_map acked_epoch more ≡ [] → StandsSafe run acks disk0 disk out0 out
+    → Released (longer run more) acks out0 out → StandsSafe (longer run more) acks disk0 disk out0 out
+stands_longer run more acks disk0 disk out0 out none s r = record {
+  blocks = s.blocks;
+  safe = λ told is. safe_longer run more disk0.moment acks disk0 disk (s.safe told is);
+  earlier = λ told is t image le left. ⊎_elim (λ before. inl before) (λ one. inr (one_longer run more image one)) (s.earlier told is t image le left);
+  acked = acks_longer run more disk0.moment acks disk0 disk none s.acked;
+  released = r;
+  unfetched = λ unfetched. s.unfetched (any_false is_fetch run.trace more unfetched);
+}
+
+module _ (limits : Limits) (start : Group) (origin : ℕ) (s : IsStart limits start origin) (disk0 : DiskView) (out0 : SinkView) (g : Group) (k : KeptBlocks) (made : ℕ) (trace : List Mark) (acks : List AckMark) (disk : DiskView) (out : SinkView)
+    (going : IsGoing limits start origin disk0 out0 g k made trace acks disk out) where
+  run : Run
+  run = run_of limits start origin trace
+
+  -- the last acknowledged group's mark, also with more marks behind
+  mark_is : (more : List Mark) → mark_of limits.quantum start origin (trace ++ more) (last_acked (run_of limits start origin (trace ++ more)) acks) ≡ Some g.frame.out.mark
+  mark_is more =
+      ap (λ (e : ℕ). mark_of limits.quantum start origin (trace ++ more) e) going.last
+      ∙ mark_of_group limits.quantum start origin (trace ++ more) k.epoch g (group_of_more limits.quantum start origin trace more k.epoch g going.group_is)
+
+  stands_on : (more : List Mark) → filter_map acked_epoch more ≡ [] → StandsSafe (run_of limits start origin (trace ++ more)) acks disk0 disk out0 out
+  unfolding run
+  stands_on more none =
+      stands_longer run more acks disk0 disk out0 out none going.safe
+      (released (longer run more) acks out0 out g.frame.out.mark g.frame.out.mark (reached_longer run more out0 out g.frame.out.mark going.reached) (mark_is more) (omega arith))
+
+  -- a stop now leaves what was acknowledged last
+  keeps_last : (kept : Kept) (more : List Mark) (image : List ℕ) → IsKeptBy (run_of limits start origin trace) acks kept → Keeps image kept → KeepsLast (run_of limits start origin (trace ++ more)) acks image
+  keeps_last nothing more image by keeps = inr (by.0, by.1, keeps)
+  keeps_last (checkpoint epoch h pages metas slot) more image by keeps =
+      let held : Holds image epoch h = record { pages = pages; metas = metas; slot = slot; at = keeps } in
+      let is = group_of_more limits.quantum start origin trace more epoch h by.group_is in
+      inl (h, subst (λ (e : ℕ). IsGroupOf limits.quantum start origin (trace ++ more) e h) (sym by.last) is, subst (λ (e : ℕ). Holds image e h) (sym by.last) held)
+
+  current_on : (more : List Mark) → ForSome disk0.reading (λ r. (image : List ℕ) → LeftNow disk image → KeepsLast (run_of limits start origin (trace ++ more)) acks image)
+  current_on more r told image left =
+      let now = going.told r told in
+      keeps_last going.kept more image going.kept_is (subst (λ (x : List ℕ). Keeps x going.kept) (sym (going.only now.0 now.1 image left)) (going.keeps now.0 now.1))
+
+  -- memory ran out during the turns
+  pub stopped : (trace' : List Mark) → StopsTurning limits trace trace' g made → HasRun (run_of limits start origin trace') acks disk0 disk out0 out NoMemory
+  stopped trace' stop =
+      let l = stop.longer in
+      let at : HasRun (run_of limits start origin (trace ++ l.more)) acks disk0 disk out0 out NoMemory =
+      prefix_of limits start origin s (trace ++ l.more) (let P : List Mark → Type 0 = λ x. IsSoloSoFar start origin limits x in subst P l.trace_is (stop.so_far start origin k.epoch going.stands))
+      acks disk0 disk out0 out NoMemory (stands_on l.more l.unacked) (λ other. current_on l.more) tt in
+      subst (λ (x : List Mark). HasRun (run_of limits start origin x) acks disk0 disk out0 out NoMemory) (sym l.trace_is) at
+
+  -- ---- a barrier that is fetched
+  module _ (g' : Group) (made' : ℕ) (trace' : List Mark) (f : IsFetched limits k.epoch trace trace' g g' made made') where
+    epoch : ℕ
+    epoch = k.epoch + 1
+
+    abbrev turned_to : StandsAt start origin limits f.marks f.before made' f.comes.since k.epoch
+    turned_to = f.comes.turned.stands start origin k.epoch going.stands
+
+    so_far : IsSoloSoFar start origin limits trace'
+    unfolding epoch
+    so_far = fetched_on start origin limits f.marks (f.marks ++ Barrier (k.epoch + 1) ∷ []) trace' f.before made' f.comes.since k.epoch (k.epoch + 1) turned_to f.comes.due.0 f.comes.due.1 refl refl f.trace_is
+
+    behind : List Mark
+    behind = f.comes.turned.longer.more ++ (Barrier (k.epoch + 1) ∷ Fetch (k.epoch + 1) ∷ [])
+
+    trace_is : trace' ≡ trace ++ behind
+    unfolding behind
+    trace_is =
+        f.trace_is
+        ∙ append_assoc f.marks (Barrier (k.epoch + 1) ∷ []) (Fetch (k.epoch + 1) ∷ [])
+        ∙ ap (λ (l : List Mark). l ++ Barrier (k.epoch + 1) ∷ Fetch (k.epoch + 1) ∷ []) f.comes.turned.longer.trace_is
+        ∙ append_assoc trace f.comes.turned.longer.more (Barrier (k.epoch + 1) ∷ Fetch (k.epoch + 1) ∷ [])
+
+    unacked : filter_map acked_epoch behind ≡ []
+    unfolding behind
+    unacked = filter_map-append acked_epoch f.comes.turned.longer.more (Barrier (k.epoch + 1) ∷ Fetch (k.epoch + 1) ∷ []) ∙ ap (λ (l : List ℕ). l ++ []) f.comes.turned.longer.unacked
+
+    run' : Run
+    run' = run_of limits start origin trace'
+
+    pub stands_fetched : StandsSafe (run_of limits start origin trace') acks disk0 disk out0 out
+    stands_fetched = subst (λ (x : List Mark). StandsSafe (run_of limits start origin x) acks disk0 disk out0 out) (sym trace_is) (stands_on behind unacked)
+
+    current_fetched : ForSome disk0.reading (λ r. (image : List ℕ) → LeftNow disk image → KeepsLast (run_of limits start origin trace') acks image)
+    current_fetched = subst (λ (x : List Mark). ForSome disk0.reading (λ r. (image : List ℕ) → LeftNow disk image → KeepsLast (run_of limits start origin x) acks image)) (sym trace_is) (current_on behind)
+
+    found_fetch : list_any (is_fetch_of (k.epoch + 1)) trace' ≡ true
+    found_fetch = ap (list_any (is_fetch_of (k.epoch + 1))) f.trace_is ∙ list_any-append (is_fetch_of (k.epoch + 1)) (f.marks ++ Barrier (k.epoch + 1) ∷ []) (Fetch (k.epoch + 1) ∷ []) ∙ last_found (list_any (is_fetch_of (k.epoch + 1)) (f.marks ++ Barrier (k.epoch + 1) ∷ [])) (k.epoch + 1)
+      where
+        last_found : (b : Bool) (e : ℕ) → (b || ((e == e) || false)) ≡ true
+        last_found true e = refl
+        last_found false e = grind arith
+
+    any_fetch : list_any is_fetch trace' ≡ true
+    any_fetch = ap (list_any is_fetch) f.trace_is ∙ list_any-append is_fetch (f.marks ++ Barrier (k.epoch + 1) ∷ []) (Fetch (k.epoch + 1) ∷ []) ∙ last_found (list_any is_fetch (f.marks ++ Barrier (k.epoch + 1) ∷ []))
+      where
+        last_found : (b : Bool) → (b || true) ≡ true
+        last_found true = refl
+        last_found false = refl
+
+    no_ack : list_any (is_ack_of (k.epoch + 1)) trace' ≡ false
+    no_ack =
+        ap (list_any (is_ack_of (k.epoch + 1))) f.trace_is ∙ list_any-append (is_ack_of (k.epoch + 1)) (f.marks ++ Barrier (k.epoch + 1) ∷ []) (Fetch (k.epoch + 1) ∷ [])
+        ∙ ap (λ (b : Bool). b || false) (list_any-append (is_ack_of (k.epoch + 1)) f.marks (Barrier (k.epoch + 1) ∷ []))
+        ∙ ap (λ (b : Bool). (b || false) || false) (turned_to.none_later (k.epoch + 1) (omega arith)).2
+
+    group_at : IsGroupOf limits.quantum start origin trace' (k.epoch + 1) g'
+    group_at =
+        ap (λ (x : List Mark). group_of limits.quantum start origin x (k.epoch + 1)) (f.trace_is ∙ append_assoc f.marks (Barrier (k.epoch + 1) ∷ []) (Fetch (k.epoch + 1) ∷ []))
+        ∙ group_of_barrier start origin limits f.marks (Fetch (k.epoch + 1) ∷ []) f.before made' f.comes.since k.epoch turned_to
+        ∙ ap (λ (x : Group). Some x) (sym f.group_is)
+
+    barrier_there : IsTrue (list_any (is_barrier_of (k.epoch + 1)) trace')
+    barrier_there =
+        ap (list_any (is_barrier_of (k.epoch + 1))) (f.trace_is ∙ append_assoc f.marks (Barrier (k.epoch + 1) ∷ []) (Fetch (k.epoch + 1) ∷ []))
+        ∙ barrier_found f.marks (Fetch (k.epoch + 1) ∷ []) (k.epoch + 1)
+
+    committing : IsCommitting (run_of limits start origin trace') (k.epoch + 1) g'
+    committing = record { barrier = barrier_there; group_is = group_at }
+
+    -- there was no plan
+    pub unplanned : (answer : RunAnswer) (count : ℕ) → count ≡ disk.blocks → IsUnplanned count g' k answer → HasRun (run_of limits start origin trace') acks disk0 disk out0 out answer
+    unplanned (DiskFull need free) count same u =
+        prefix_of limits start origin s trace' so_far acks disk0 disk out0 out (DiskFull need free) stands_fetched (λ other. current_fetched) (record {
+          epoch = k.epoch + 1;
+          fetched = found_fetch;
+          unacked = no_ack;
+          group = g';
+          group_is = group_at;
+          need_is = u.need_is;
+          free_is = λ r told. record {
+            kept = going.kept;
+            keeps = going.keeps r told;
+            next = going.knows.epoch;
+            flags = u.flags;
+            flags_are = λ b. may_be count disk.blocks k going.kept same going.knows b (u.flags_are b);
+            free_is = u.free_is;
+          };
+          too_few = u.too_few;
+        })
+    unplanned NoMemory count same u = prefix_of limits start origin s trace' so_far acks disk0 disk out0 out NoMemory stands_fetched (λ other. current_fetched) tt
+    unplanned Done count same u = absurd u
+    unplanned Stuck count same u = absurd u
+    unplanned Spent count same u = absurd u
+    unplanned DiskFault count same u = absurd u
+    unplanned SinkFault count same u = absurd u
+
+    module _ (ready : Ready) (count : ℕ) (same : count ≡ disk.blocks) (is_ready : IsReady count g' k ready) where
+      during : (disk' : DiskView) → LeavesKept k g' disk disk' → ForSome disk0.reading (λ r. LeavesOnly disk disk' (KeepsOrHolds going.kept g'))
+      during disk' leaves r told = let now = going.told r told in leaves now.0 now.1 going.kept going.knows (going.keeps now.0 now.1)
+
+      kept_on : IsKeptBy (run_of limits start origin trace') acks going.kept
+      unfolding run
+      kept_on = subst (λ (x : List Mark). IsKeptBy (run_of limits start origin x) acks going.kept) (sym trace_is) (kept_longer run behind acks going.kept going.kept_is)
+
+      committing_kept : IsCommitting (run_of limits start origin trace') (epoch_after going.kept) g'
+      committing_kept = subst (λ (e : ℕ). IsCommitting (run_of limits start origin trace') e g') (sym going.knows.epoch) committing
+
+      stands_written : (disk' : DiskView) → LeavesKept k g' disk disk' → disk.moment ≤ disk'.moment → disk'.blocks ≡ disk.blocks → StandsSafe (run_of limits start origin trace') acks disk0 disk' out0 out
+      stands_written disk' leaves later blocks = record {
+        blocks = blocks ∙ stands_fetched.blocks;
+        safe = λ r told. safe_during (run_of limits start origin trace') acks disk0 disk disk' disk0.moment (stands_fetched.safe r told) stands_fetched.acked going.kept kept_on g' committing_kept (during disk' leaves r told);
+        earlier = λ r told t image le left.
+            let lasted = first_before disk0.moment disk.moment acks stands_fetched.acked.moments in
+            ⊎_elim
+            (λ old. stands_fetched.earlier r told t image le old)
+            (λ here. inr (one_during (run_of limits start origin trace') acks going.kept g' image kept_on committing_kept here))
+            ((during disk' leaves r told).before t image (omega (arith, le, lasted)) left);
+        acked = acks_later (run_of limits start origin trace') disk0.moment acks disk0 disk disk' later stands_fetched.acked;
+        released = stands_fetched.released;
+        unfetched = λ none. absurd (some_fetch (list_any is_fetch trace') any_fetch none);
+      }
+        where
+          some_fetch : (b : Bool) → b ≡ true → b ≡ false → ⊥
+          some_fetch true a b = cc
+          some_fetch false a b = cc
+
+      -- the commit failed
+      pub uncommitted : (disk' : DiskView) → IsUncommitted k g' disk disk' → HasRun (run_of limits start origin trace') acks disk0 disk' out0 out DiskFault
+      uncommitted disk' u = prefix_of limits start origin s trace' so_far acks disk0 disk' out0 out DiskFault (stands_written disk' u.leaves u.later u.blocks) (λ other. absurd (other refl)) (rose_later disk0.faults disk.faults disk'.faults going.disk_faults u.rose)
+
+      -- ---- it was acknowledged
+      module _ (disk' : DiskView) (trace'' : List Mark) (acks' : List AckMark) (size : (r : List ℕ) → disk.reading ≡ Some r → length r ≡ 4096 * disk.blocks)
+          (done : IsCommitted k g' ready.plan.blocks ready.plan.body disk disk' trace' trace'' acks acks') where
+        plan : IsPlan count k.used.items (k.epoch + 1) g' ready.plan.blocks ready.plan.body
+        plan = is_ready.plan
+
+        kept' : Kept
+        kept' = checkpoint (k.epoch + 1) g' plan.pages plan.metas (target_after going.kept)
+
+        covers : Covers k.used.items going.kept
+        covers b has = (going.knows.used b).1 has
+
+        holds_after : (r : List ℕ) → disk.reading ≡ Some r → HoldsAt (finished (target_after going.kept) ready.plan.blocks ready.plan.body r) (k.epoch + 1) g' plan.pages plan.metas (target_after going.kept)
+        holds_after r told = plan.sound going.kept covers (sym going.knows.epoch) r (size r told ∙ ap (λ (n : ℕ). 4096 * n) (sym same)) (going.keeps r told)
+
+        read_now : (r : List ℕ) → disk.reading ≡ Some r → disk'.reading ≡ Some (finished (target_after going.kept) ready.plan.blocks ready.plan.body r)
+        read_now r told = done.reads ∙ ap (option_map (finished k.target ready.plan.blocks ready.plan.body)) told ∙ ap (λ (t : Slot). Some (finished t ready.plan.blocks ready.plan.body r)) (sym going.knows.target)
+
+        told_before : (now : List ℕ) → disk'.reading ≡ Some now → (r : List ℕ) × (disk.reading ≡ Some r) × (now ≡ finished (target_after going.kept) ready.plan.blocks ready.plan.body r)
+        told_before now told = from_map disk.reading refl
+          where
+            from_map : (o : Option (List ℕ)) → disk.reading ≡ o → (r : List ℕ) × (disk.reading ≡ Some r) × (now ≡ finished (target_after going.kept) ready.plan.blocks ready.plan.body r)
+            from_map None is = let none : disk'.reading ≡ None = done.reads ∙ ap (option_map (finished k.target ready.plan.blocks ready.plan.body)) is in absurd (cc)
+            from_map (Some r) is = let there = read_now r is in (r, is, cc)
+
+        keeps' : ForSome disk'.reading (λ r. Keeps r kept')
+        unfolding kept'
+        keeps' now told =
+            let was = told_before now told in
+            subst (λ (x : List ℕ). HoldsAt x (k.epoch + 1) g' plan.pages plan.metas (target_after going.kept)) (sym was.2) (holds_after was.0 was.1)
+
+        held_now : (r : List ℕ) → disk0.reading ≡ Some r → (image : List ℕ) → LeftNow disk' image → Holds image (k.epoch + 1) g'
+        held_now r told image left =
+            let now = going.told r told in
+            let is : image ≡ finished (target_after going.kept) ready.plan.blocks ready.plan.body now.0 = done.only (finished (target_after going.kept) ready.plan.blocks ready.plan.body now.0) (read_now now.0 now.1) image left in
+            subst (λ (x : List ℕ). Holds x (k.epoch + 1) g') (sym is) (record { pages = plan.pages; metas = plan.metas; slot = target_after going.kept; at = holds_after now.0 now.1 })
+
+        knows' : Knows ready.next kept'
+        unfolding kept'
+        knows' = record {
+          epoch = ap (λ (n : ℕ). n + 1) (sym is_ready.next.epoch);
+          used = λ b. (
+            (λ has. (plan.uses b).0 (subst (λ (l : List ℕ). Has b l) is_ready.next.used has)),
+            (λ has. subst (λ (l : List ℕ). Has b l) (sym is_ready.next.used) ((plan.uses b).1 has)),
+          );
+          target = ap other going.knows.target ∙ sym is_ready.next.target;
+        }
+
+        one_ack : filter_map acked_epoch (Ack (k.epoch + 1) ∷ []) ≡ (k.epoch + 1) ∷ []
+        one_ack = refl
+
+        stands_acked : (out' : SinkView) → Released (run_of limits start origin trace'') acks' out0 out' → StandsSafe (run_of limits start origin trace'') acks' disk0 disk' out0 out'
+        stands_acked out' r =
+            let w = stands_written disk' done.leaves done.later done.blocks in
+            let acked : AckMark = record { epoch = k.epoch + 1; at = disk'.moment } in
+            let P : List Mark → List AckMark → Type 0 = λ t a. Released (run_of limits start origin t) a out0 out' → StandsSafe (run_of limits start origin t) a disk0 disk' out0 out' in
+            let made : P (trace' ++ Ack (k.epoch + 1) ∷ []) (acks ++ acked ∷ []) = λ r. record {
+              blocks = w.blocks;
+              safe = λ b told. safe_acked (run_of limits start origin trace') (Ack (k.epoch + 1) ∷ []) (k.epoch + 1) disk0.moment acks disk0 disk' g' (w.safe b told) committing (held_now b told);
+              earlier = λ b told t image le left. ⊎_elim (λ before. inl before) (λ one. inr (one_longer (run_of limits start origin trace') (Ack (k.epoch + 1) ∷ []) image one)) (w.earlier b told t image le left);
+              acked = acks_more (run_of limits start origin trace') (Ack (k.epoch + 1) ∷ []) (k.epoch + 1) disk0.moment acks disk0 disk disk' done.later one_ack stands_fetched.acked;
+              released = r;
+              unfetched = λ none. absurd (some_fetch trace' any_fetch none);
+            } in
+            subst (λ (t : List Mark). P t acks') (sym done.trace_is) (subst (λ (a : List AckMark). P (trace' ++ Ack (k.epoch + 1) ∷ []) a) (sym done.acks_is) made) r
+          where
+            both_found : (a b : Bool) → a ≡ true → (a || b) ≡ false → ⊥
+            both_found true b x y = cc
+            both_found false b x y = cc
+
+            some_fetch : (t : List Mark) → list_any is_fetch t ≡ true → list_any is_fetch (t ++ Ack (k.epoch + 1) ∷ []) ≡ false → ⊥
+            some_fetch t any none = both_found (list_any is_fetch t) false any (sym (list_any-append is_fetch t (Ack (k.epoch + 1) ∷ [])) ∙ none)
+
+        stands' : StandsAt start origin limits trace'' g' made' 0 (k.epoch + 1)
+        stands' = barrier_made_on start origin limits f.marks (f.marks ++ Barrier (k.epoch + 1) ∷ []) trace' trace'' f.before g' made' f.comes.since k.epoch (k.epoch + 1) turned_to f.comes.due.0 f.comes.due.1 refl f.group_is refl f.trace_is done.trace_is
+
+        group_at' : IsGroupOf limits.quantum start origin trace'' (k.epoch + 1) g'
+        group_at' = subst (λ (t : List Mark). IsGroupOf limits.quantum start origin t (k.epoch + 1) g') (sym done.trace_is) (group_of_more limits.quantum start origin trace' (Ack (k.epoch + 1) ∷ []) (k.epoch + 1) g' group_at)
+
+        kept_is' : IsKeptAt (run_of limits start origin trace'') acks' (k.epoch + 1) g'
+        unfolding run
+        kept_is' =
+            let P : List Mark → List AckMark → Type 0 = λ t a. IsKeptAt (run_of limits start origin t) a (k.epoch + 1) g' in
+            let below = subst (λ (e : ℕ). AllByRecursion (λ (a : AckMark). a.epoch ≤ e) acks) going.knows.epoch (acks_below run acks going.kept going.kept_is) in
+            subst (λ (t : List Mark). P t acks') (sym done.trace_is) (subst (λ (a : List AckMark). P (trace' ++ Ack (k.epoch + 1) ∷ []) a) (sym done.acks_is)
+            (kept_acked (run_of limits start origin trace') (Ack (k.epoch + 1) ∷ []) (k.epoch + 1) disk'.moment acks g' committing below))
+
+        current_acked : ForSome disk0.reading (λ r. (image : List ℕ) → LeftNow disk' image → KeepsLast (run_of limits start origin trace'') acks' image)
+        current_acked r told image left =
+            inl (g', subst (λ (e : ℕ). IsGroupOf limits.quantum start origin trace'' e g') (sym kept_is'.last) group_at', subst (λ (e : ℕ). Holds image e g') (sym kept_is'.last) (held_now r told image left))
+
+        -- ---- the release
+        reaches_all : last_position g'.frame.out ≡ start.frame.out.from + length (output limits.quantum start trace'')
+        reaches_all = last_is start origin limits trace'' g' made' 0 (k.epoch + 1) stands' (out_valid limits start origin s).0 (out_valid limits start origin s).1
+
+        before_mark : f.before.frame.out.mark ≡ g.frame.out.mark
+        before_mark = sym (ap (λ (x : Group). x.frame.out.from) f.group_is) ∙ f.from_is
+
+        whole_trace : trace'' ≡ f.marks ++ (Barrier (k.epoch + 1) ∷ Fetch (k.epoch + 1) ∷ Ack (k.epoch + 1) ∷ [])
+        whole_trace =
+            done.trace_is ∙ ap (λ (l : List Mark). l ++ Ack (k.epoch + 1) ∷ []) f.trace_is
+            ∙ append_assoc (f.marks ++ Barrier (k.epoch + 1) ∷ []) (Fetch (k.epoch + 1) ∷ []) (Ack (k.epoch + 1) ∷ [])
+            ∙ append_assoc f.marks (Barrier (k.epoch + 1) ∷ []) (Fetch (k.epoch + 1) ∷ Ack (k.epoch + 1) ∷ [])
+
+        last_same : last_position g'.frame.out ≡ last_position f.before.frame.out
+        last_same =
+            ap (λ (x : Group). last_position x.frame.out) f.group_is
+            ∙ barrier_reaches start origin limits f.marks f.before made' f.comes.since k.epoch turned_to (out_valid limits start origin s).0 (out_valid limits start origin s).1
+
+        -- what the barrier left is the output from the old mark on
+        piece_is : output_between limits.quantum start trace'' g.frame.out.mark (last_position g'.frame.out) ≡ g'.frame.out.bytes
+        piece_is =
+            ap (λ (n : ℕ). output_between limits.quantum start trace'' g.frame.out.mark n) last_same
+            ∙ ap (λ (n : ℕ). output_between limits.quantum start trace'' n (last_position f.before.frame.out)) (sym before_mark)
+            ∙ ap (λ (t : List Mark). output_between limits.quantum start t f.before.frame.out.mark (last_position f.before.frame.out)) whole_trace
+            ∙ released_piece start origin limits f.marks f.before made' f.comes.since k.epoch turned_to (out_valid limits start origin s).0 (out_valid limits start origin s).1 (Barrier (k.epoch + 1) ∷ Fetch (k.epoch + 1) ∷ Ack (k.epoch + 1) ∷ [])
+            ∙ ap (λ (x : Group). x.frame.out.bytes) (sym f.group_is)
+
+        rest_is : rest_of g'.frame.out out ≡ g'.frame.out.bytes
+        rest_is = let none : out.count - g'.frame.out.from ≡ 0 = omega (arith, going.out_at, f.from_is) in ap (λ (n : ℕ). drop n g'.frame.out.bytes) none
+
+        reached_here : Reached (run_of limits start origin trace'') out0 out g.frame.out.mark
+        unfolding run
+        reached_here =
+            let one = reached_longer run behind out0 out g.frame.out.mark going.reached in
+            let two = subst (λ (t : List Mark). Reached (run_of limits start origin t) out0 out g.frame.out.mark) (sym trace_is) one in
+            subst (λ (t : List Mark). Reached (run_of limits start origin t) out0 out g.frame.out.mark) (sym done.trace_is) (reached_longer (run_of limits start origin trace') (Ack (k.epoch + 1) ∷ []) out0 out g.frame.out.mark two)
+
+        reached_on : (out' : SinkView) (m : ℕ) → m ≤ length g'.frame.out.bytes → Takes (take m g'.frame.out.bytes) out out' → Reached (run_of limits start origin trace'') out0 out' (g.frame.out.mark + m)
+        reached_on out' m le taken = reached_more (run_of limits start origin trace'') out0 out out' g.frame.out.mark (last_position g'.frame.out) m g'.frame.out.bytes reached_here (omega (arith, reaches_all)) piece_is le taken
+
+        mark_after : mark_of limits.quantum start origin trace'' (last_acked (run_of limits start origin trace'') acks') ≡ Some g'.frame.out.mark
+        mark_after = ap (λ (e : ℕ). mark_of limits.quantum start origin trace'' e) kept_is'.last ∙ mark_of_group limits.quantum start origin trace'' (k.epoch + 1) g' group_at'
+
+        mark_far : g'.frame.out.mark ≡ g.frame.out.mark + length g'.frame.out.bytes
+        mark_far = omega (arith, f.checkpointed.all_marked, f.from_is)
+
+        released_on : (out' : SinkView) (m : ℕ) → m ≤ length g'.frame.out.bytes → Takes (take m g'.frame.out.bytes) out out' → Released (run_of limits start origin trace'') acks' out0 out'
+        released_on out' m le taken = released (run_of limits start origin trace'') acks' out0 out' (g.frame.out.mark + m) g'.frame.out.mark (reached_on out' m le taken) mark_after (omega (arith, mark_far, le))
+
+        -- the output failed
+        pub unreleased : (out' : SinkView) → ReleasesPart g'.frame.out out out' → HasRun (run_of limits start origin trace'') acks' disk0 disk' out0 out' SinkFault
+        unreleased out' r =
+            let within : r.size ≤ length g'.frame.out.bytes = subst (λ (l : List ℕ). r.size ≤ length l) rest_is r.within in
+            let taken = subst (λ (l : List ℕ). Takes (take r.size l) out out') rest_is r.taken in
+            prefix_of limits start origin s trace'' stands'.so_far acks' disk0 disk' out0 out' SinkFault (stands_acked out' (released_on out' r.size within taken)) (λ other. current_acked) (rose_later out0.faults out.faults out'.faults going.out_faults r.rose)
+
+        -- an interval more
+        pub goes : (out' : SinkView) → 16 ≤ disk.blocks → ReleasesRest g'.frame.out out out' → IsGoing limits start origin disk0 out0 g' ready.next made' trace'' acks' disk' out'
+        unfolding kept'
+        goes out' least r =
+            let all : Takes (take (length g'.frame.out.bytes) g'.frame.out.bytes) out out' = subst (λ (l : List ℕ). Takes l out out') (rest_is ∙ sym (take_all (length g'.frame.out.bytes) g'.frame.out.bytes (omega arith))) r.taken in
+            let count : out'.count ≡ out.count + length g'.frame.out.bytes = r.taken.count ∙ ap (λ (l : List ℕ). out.count + length l) rest_is in
+            record {
+              stands = subst (λ (e : ℕ). StandsAt start origin limits trace'' g' made' 0 e) (sym is_ready.next.epoch) stands';
+              checkpointed = f.checkpointed;
+              position = omega (arith, going.position, f.comes.turned.grown, f.comes.turned.made_is, last_same);
+              epochs = omega (arith, is_ready.next.epoch, going.epochs, f.comes.turned.made_is, f.comes.due.0);
+              within = f.comes.turned.within;
+              safe = stands_acked out' (released_on out' (length g'.frame.out.bytes) (omega arith) all);
+              disk_faults = omega (arith, going.disk_faults, done.faults);
+              out_faults = omega (arith, going.out_faults, r.faults);
+              told = λ b told. let now = going.told b told in (finished (target_after going.kept) ready.plan.blocks ready.plan.body now.0, read_now now.0 now.1);
+              only = done.only;
+              gates = λ now told.
+                  let was = told_before now told in
+                  subst (λ (x : List ℕ). KnowsGates ready.next x) (ap (λ (t : Slot). finished t ready.plan.blocks ready.plan.body was.0) (sym going.knows.target) ∙ sym was.2)
+                  (gates_after k ready.next (numbers ready.plan.blocks) ready.plan.blocks disk.blocks was.0 ready.plan.body (subst (λ (n : ℕ). AllByRecursion (IsPlaced n) ready.plan.blocks) same plan.placed) least (size was.0 was.1) is_ready.next (going.gates was.0 was.1));
+              kept = kept';
+              knows = knows';
+              keeps = keeps';
+              kept_is = kept_is';
+              group_is = subst (λ (e : ℕ). IsGroupOf limits.quantum start origin trace'' e g') (sym is_ready.next.epoch) group_at';
+              last = kept_is'.last ∙ sym is_ready.next.epoch;
+              reached = subst (λ (n : ℕ). Reached (run_of limits start origin trace'') out0 out' n) (sym mark_far) (reached_on out' (length g'.frame.out.bytes) (omega arith) all);
+              out_at = omega (arith, count, going.out_at, mark_far);
+            }
+
+  -- ---- the end
+  pub ended : (answer : RunAnswer) → (ready g ≡ []) ⊎ (limits.turns ≤ made) → EndsIn g answer → HasRun (run_of limits start origin trace) acks disk0 disk out0 out answer
+  ended answer over ends = prefix_of limits start origin s trace going.stands.so_far acks disk0 disk out0 out answer going.safe (λ other. current_now) (by_answer answer ends)
+    where
+      current_now : ForSome disk0.reading (λ r. (image : List ℕ) → LeftNow disk image → KeepsLast (run_of limits start origin trace) acks image)
+      current_now = subst (λ (t : List Mark). ForSome disk0.reading (λ r. (image : List ℕ) → LeftNow disk image → KeepsLast (run_of limits start origin t) acks image)) (append-nil trace) (current_on [])
+
+      whole : IsSoloTrace start origin limits trace → IsWhole (run_of limits start origin trace) out
+      whole solo = record {
+        whole = solo;
+        settled = settled start origin limits trace g made k.epoch going.stands;
+        all_out = going.out_at ∙ going.checkpointed.all_marked ∙ ap (λ (x : Group). last_position x.frame.out) (sym going.stands.group);
+      }
+
+      all_made : (ready g ≡ []) ⊎ (limits.turns ≤ made) → (ready g ≡ [] → ⊥) → made ≡ limits.turns
+      all_made (inl none) some = absurd (some none)
+      all_made (inr all) some = omega (arith, all, going.within)
+
+      by_answer : (answer : RunAnswer) → EndsIn g answer → EndsFor (run_of limits start origin trace) disk0 disk out0 out answer
+      by_answer Done e = (whole (ends_done start origin limits trace g made k.epoch going.stands e), subst IsDone (sym going.stands.group) e)
+      by_answer Stuck e = (whole (ends_stuck start origin limits trace g made k.epoch going.stands e), subst IsStuck (sym going.stands.group) e)
+      by_answer Spent e =
+          let all = all_made over e.2 in
+          (whole (ends_spent start origin limits trace g made k.epoch going.stands all e.0 e.1), last_spent start origin limits trace g made k.epoch going.stands all e.0 e.1)
+      by_answer DiskFault e = absurd e
+      by_answer SinkFault e = absurd e
+      by_answer (DiskFull need free) e = absurd e
+      by_answer NoMemory e = absurd e
+
+-- ---- the start
+
+-- What is known of a disk and of an output when a run begins.
+module _ (limits : Limits) (start : Group) (epoch : ℕ) (s : IsStart limits start epoch) (disk : DiskView) (out : SinkView) (only : OnlyReading disk)
+    (kept : Kept) (next : epoch_after kept ≡ epoch + 1) (first : IsFirstKept start kept) (keeps : ForSome disk.reading (λ r. Keeps r kept))
+    (least : start.frame.out.from ≤ out.count) (most : out.count ≤ last_position start.frame.out) where
+  run0 : Run
+  run0 = run_of limits start epoch []
+
+  kept_first : (kept : Kept) → epoch_after kept ≡ epoch + 1 → IsFirstKept start kept → IsKeptBy (run_of limits start epoch []) [] kept
+  kept_first nothing next first = let same : 1 ≡ epoch + 1 = next in (omega (arith, same), refl)
+  kept_first (checkpoint e h pages metas slot) next first =
+      let at : e ≡ epoch = let same : e + 1 ≡ epoch + 1 = next in omega (arith, same) in
+      record {
+        group_is = ap (λ (n : ℕ). group_of limits.quantum start epoch [] n) at ∙ group_of_origin limits.quantum start epoch [] ∙ ap (λ (x : Group). Some x) (sym first);
+        last = sym at;
+        none_above = tt;
+        barrier = inl (refl, at);
+      }
+
+  -- nothing is committed yet
+  one_kept : (kept : Kept) → epoch_after kept ≡ epoch + 1 → IsFirstKept start kept → (image : List ℕ) → Keeps image kept → HoldsOne (run_of limits start epoch []) image
+  one_kept nothing next first image keeps = let same : 1 ≡ epoch + 1 = next in inr (inr (omega (arith, same), keeps))
+  one_kept (checkpoint e h pages metas slot) next first image keeps =
+      let at : e ≡ epoch = let same : e + 1 ≡ epoch + 1 = next in omega (arith, same) in
+      let held : Holds image e h = record { pages = pages; metas = metas; slot = slot; at = keeps } in
+      inr (inl (subst (λ (n : ℕ). Holds image n start) at (subst (λ (g : Group). Holds image e g) first held)))
+
+  one_now : (r : List ℕ) → disk.reading ≡ Some r → (image : List ℕ) → LeftNow disk image → HoldsOne (run_of limits start epoch []) image
+  one_now r told image left = one_kept kept next first image (subst (λ (x : List ℕ). Keeps x kept) (sym (only r told image left)) (keeps r told))
+
+  current_first : ForSome disk.reading (λ r. (image : List ℕ) → LeftNow disk image → KeepsLast (run_of limits start epoch []) [] image)
+  current_first r told image left = by_kept kept next first (subst (λ (x : List ℕ). Keeps x kept) (sym (only r told image left)) (keeps r told))
+    where
+      by_kept : (kept : Kept) → epoch_after kept ≡ epoch + 1 → IsFirstKept start kept → Keeps image kept → KeepsLast (run_of limits start epoch []) [] image
+      by_kept nothing next first keeps = let same : 1 ≡ epoch + 1 = next in inr (omega (arith, same), refl, keeps)
+      by_kept (checkpoint e h pages metas slot) next first keeps =
+          let at : e ≡ epoch = let same : e + 1 ≡ epoch + 1 = next in omega (arith, same) in
+          let held : Holds image e h = record { pages = pages; metas = metas; slot = slot; at = keeps } in
+          inl (start, group_of_origin limits.quantum start epoch [], subst (λ (n : ℕ). Holds image n start) at (subst (λ (g : Group). Holds image e g) first held))
+
+  out_ok : (start.frame.out.from ≤ start.frame.out.mark) × (start.frame.out.mark ≤ last_position start.frame.out)
+  out_ok = out_valid limits start epoch s
+
+  reached_none : Reached (run_of limits start epoch []) out out out.count
+  reached_none = record {
+    first = least;
+    least = omega arith;
+    there = omega (arith, most, last_is start epoch limits [] start 0 0 epoch (begins start epoch limits) out_ok.0 out_ok.1);
+    taken = subst (λ (l : List ℕ). Takes l out out) (sym (between_none limits.quantum start [] out.count)) (takes_none out);
+  }
+
+  stands_first : (out' : SinkView) → Released (run_of limits start epoch []) [] out out' → StandsSafe (run_of limits start epoch []) [] disk disk out out'
+  stands_first out' r = record {
+    blocks = refl;
+    safe = λ b told. record {
+      acknowledged = tt;
+      opened = λ image left. one_now b told image left;
+      entered = λ image left. inl left;
+    };
+    earlier = λ b told t image le left. inl left;
+    acked = record { epochs = refl; opening = omega arith; moments = omega arith };
+    released = r;
+    unfetched = λ none. (record { blocks = refl; reading = refl; writes = refl; later = omega arith; left = λ image left. left }, λ t image le left. left);
+  }
+
+  piece_first : output_between limits.quantum start [] out.count (last_position start.frame.out) ≡ rest_of start.frame.out out
+  piece_first = start_released limits.quantum start [] out.count
+
+  reached_first : (out' : SinkView) (m : ℕ) → m ≤ length (rest_of start.frame.out out) → Takes (take m (rest_of start.frame.out out)) out out' → Reached (run_of limits start epoch []) out out' (out.count + m)
+  reached_first out' m le taken =
+      reached_more (run_of limits start epoch []) out out out' out.count (last_position start.frame.out) m (rest_of start.frame.out out) reached_none
+      (omega (arith, last_is start epoch limits [] start 0 0 epoch (begins start epoch limits) out_ok.0 out_ok.1)) piece_first le taken
+
+  mark_first : mark_of limits.quantum start epoch [] (last_acked (run_of limits start epoch []) []) ≡ Some start.frame.out.mark
+  mark_first = mark_of_group limits.quantum start epoch [] epoch start (group_of_origin limits.quantum start epoch [])
+
+  rest_size : out.count + length (rest_of start.frame.out out) ≡ start.frame.out.mark
+  rest_size = omega (arith, least, most, s.checkpointed.all_marked, length-drop (out.count - start.frame.out.from) start.frame.out.bytes)
+
+  released_first : (out' : SinkView) (m : ℕ) → m ≤ length (rest_of start.frame.out out) → Takes (take m (rest_of start.frame.out out)) out out' → Released (run_of limits start epoch []) [] out out'
+  released_first out' m le taken = released (run_of limits start epoch []) [] out out' (out.count + m) start.frame.out.mark (reached_first out' m le taken) mark_first (omega (arith, le, rest_size))
+
+  -- the output failed at once
+  pub unreleased_first : (out' : SinkView) → ReleasesPart start.frame.out out out' → HasRun (run_of limits start epoch []) [] disk disk out out' SinkFault
+  unreleased_first out' r = prefix_of limits start epoch s [] (begins start epoch limits).so_far [] disk disk out out' SinkFault (stands_first out' (released_first out' r.size r.within r.taken)) (λ other. current_first) r.rose
+
+  -- want of memory at once
+  pub unbegun : HasRun (run_of limits start epoch []) [] disk disk out out NoMemory
+  unbegun =
+      prefix_of limits start epoch s [] (begins start epoch limits).so_far [] disk disk out out NoMemory
+      (stands_first out (released_first out 0 (omega arith) (takes_none out))) (λ other. current_first) tt
+
+-- it goes on
+module _ (limits : Limits) (start : Group) (k : KeptBlocks) (s : IsStart limits start k.epoch) (disk : DiskView) (out : SinkView) (only : OnlyReading disk)
+    (kept : Kept) (knows : Knows k kept) (first : IsFirstKept start kept) (keeps : ForSome disk.reading (λ r. Keeps r kept))
+    (least : start.frame.out.from ≤ out.count) (most : out.count ≤ last_position start.frame.out) where
+  pub goes_first : (out' : SinkView) → ForSome disk.reading (λ r. KnowsGates k r) → ReleasesRest start.frame.out out out' → IsGoing limits start k.epoch disk out start k 0 [] [] disk out'
+  goes_first out' gates r =
+      let n = length (rest_of start.frame.out out) in
+      let all : Takes (take n (rest_of start.frame.out out)) out out' = subst (λ (l : List ℕ). Takes l out out') (sym (take_all n (rest_of start.frame.out out) (omega arith))) r.taken in
+      record {
+        stands = begins start k.epoch limits;
+        checkpointed = s.checkpointed;
+        position = omega (arith, s.position);
+        epochs = omega (arith, s.epoch);
+        within = omega arith;
+        safe = stands_first limits start k.epoch s disk out only kept knows.epoch first keeps least most out' (released_first limits start k.epoch s disk out only kept knows.epoch first keeps least most out' n (omega arith) all);
+        disk_faults = omega arith;
+        out_faults = r.faults;
+        told = λ b told. (b, told);
+        only = only;
+        gates = gates;
+        kept = kept;
+        knows = knows;
+        keeps = keeps;
+        kept_is = kept_first limits start k.epoch s disk out only kept knows.epoch first keeps least most kept knows.epoch first;
+        group_is = group_of_origin limits.quantum start k.epoch [];
+        last = refl;
+        reached = subst (λ (m : ℕ). Reached (run_of limits start k.epoch []) out out' m) (rest_size limits start k.epoch s disk out only kept knows.epoch first keeps least most) (reached_first limits start k.epoch s disk out only kept knows.epoch first keeps least most out' n (omega arith) all);
+        out_at = omega (arith, r.taken.count, rest_size limits start k.epoch s disk out only kept knows.epoch first keeps least most);
+      }

@@ -1,0 +1,251 @@
+-- The pages of a valid group that aren't all zero, as they are gathered.
+use Rattle.std.proofs.Common.{Vec, Global, Result, Ok, Err, ◌≡◌, ℕ, zero, suc, ◌+◌, ◌-◌, ◌*◌, ◌/◌, ◌<◌, ◌≤◌, ◌==◌, Bool, true, false, cond, List, [], ◌∷◌, ◌++◌, map, length, take, drop, get_or, refl, sym, ap, ap₂, ◌∙◌, subst, arith, append_assoc, length-take, length-drop, add-one}
+use Rattle.std.specs.Prelude.{not, IfOk}
+use Rattle.std.specs.List.{filter, flat_map, range_with_len, AllZip, AllByRecursion}
+use Rattle.std.proofs.lemmas.List.{append-nil, length-map, map-append, map_more}
+use Rattle.std.proofs.lemmas.List.Concat.{flat_map-append}
+use Rattle.std.proofs.lemmas.List.Elements.{filter-append}
+use Rattle.group_defs.specs.Group.{Group}
+use Rattle.group_defs.specs.Cells.{bytes_in}
+use Rattle.group_defs.specs.Order.{Rise}
+use Rattle.group_defs.specs.Touched.{all_pages, nonzero_pages, page_bytes, is_zero_page, pages_of as all_pages_of}
+use Rattle.group_defs.specs.Valid.{GroupIsValid, IsObject}
+use Rattle.group_defs.specs.declared.frame.ObjectRec.{ObjectRec}
+use Rattle.solo_engine.specs.Placing.{page_in, is_zero, is_kept, page_with, pages_up_to, pages_of, pages_in}
+use Rattle.ckpt_records.specs.Spelling.{record_bytes}
+use Rattle.ckpt_records.specs.declared.meta.PagePlace.{PagePlace}
+use Rattle.solo_engine.specs.Answers.{cost_of, unplaced}
+use Rattle.group_defs.specs.declared.frame.Frame.{Frame}
+use Rattle.solo_engine.specs.Interval.{NeedsMore}
+use Rattle.solo_engine.specs.Plans.{anywhere, metas_for, needs, place_of, ArePagesOf, IsPlanRefused}
+use Rattle.solo_engine.specs.declared.kept.KeptBlocks.{KeptBlocks}
+use Rattle.solo_engine.specs.declared.plan.PlanRefused.TheVariants.{Full}
+use Rattle.solo_engine.specs.declared.plan.Page.{Page}
+use Rattle.solo_engine.proofs.Ordered.{IsOrdered, each_weaker, each_append, each_map, each_filter, each_in_range, ordered_of_pairs}
+
+-- ---- the bytes of an object by its number
+
+-- the entry has the object's bytes, and the object's number finds them
+pub record IsFound (memory : List (ℕ × List ℕ)) (o : ObjectRec) (entry : ℕ × List ℕ) : Type 0 where
+  pub number : entry.0 ≡ o.number
+  pub size : length entry.1 ≡ 4096 * o.pages
+  pub bytes : bytes_in memory o.number ≡ entry.1
+
+found_more : (e : ℕ × List ℕ) (memory : List (ℕ × List ℕ)) (objects : List ObjectRec) (entries : List (ℕ × List ℕ)) → AllByRecursion (λ (o : ObjectRec). e.0 < o.number) objects
+    → AllZip (IsFound memory) objects entries → AllZip (IsFound (e ∷ memory)) objects entries
+found_more e memory [] [] higher found = tt
+found_more e memory [] (x ∷ entries) higher found = absurd found
+found_more e memory (o ∷ objects) [] higher found = absurd found
+found_more e memory (o ∷ objects) (x ∷ entries) higher found =
+    let test : (e.0 == o.number) ≡ false = grind (arith, higher.0) in
+    (record { number = found.0.number; size = found.0.size; bytes = rw (bytes_in, test) found.0.bytes }, found_more e memory objects entries higher.1 found.1)
+
+abbrev IsLower : ObjectRec → ObjectRec → Type 0
+IsLower a b = a.number < b.number
+
+found_all : (objects : List ObjectRec) (memory : List (ℕ × List ℕ)) → AllZip IsObject objects memory → IsOrdered IsLower objects → AllZip (IsFound memory) objects memory
+found_all [] [] zip rising = tt
+found_all [] (e ∷ memory) zip rising = absurd zip
+found_all (o ∷ objects) [] zip rising = absurd zip
+found_all (o ∷ objects) (e ∷ memory) zip rising =
+    let at : e.0 ≡ o.number = zip.0.0 in
+    let test : (e.0 == o.number) ≡ true = grind (arith, at) in
+    let higher : AllByRecursion (λ (b : ObjectRec). e.0 < b.number) objects = each_weaker (IsLower o) (λ (b : ObjectRec). e.0 < b.number) objects (λ b lt. omega (arith, lt, at)) rising.0 in
+    (record { number = at; size = zip.0.1; bytes = rw (bytes_in, test) refl }, found_more e memory objects memory higher (found_all objects memory zip.1 rising.1))
+
+-- ---- which pages are placed
+
+map_map : {X Y Z : Type 0} (g : Y → Z) (f : X → Y) (xs : List X) → map g (map f xs) ≡ map (λ x. g (f x)) xs
+map_map g f [] = refl
+map_map g f (x ∷ xs) = ap (λ zs. g (f x) ∷ zs) (map_map g f xs)
+
+map_cond : {X Y : Type 0} (f : X → Y) (b : Bool) (x : X) (xs : List X) → map f (cond b (x ∷ xs) xs) ≡ cond b (f x ∷ map f xs) (map f xs)
+map_cond f true x xs = refl
+map_cond f false x xs = refl
+
+filter_map : {X Y : Type 0} (t : Y → Bool) (f : X → Y) (xs : List X) → filter t (map f xs) ≡ map f (filter (λ x. t (f x)) xs)
+filter_map t f [] = refl
+filter_map t f (x ∷ xs) = ap (λ ys. cond (t (f x)) (f x ∷ ys) ys) (filter_map t f xs) ∙ sym (map_cond f (t (f x)) x (filter (λ x. t (f x)) xs))
+
+abbrev is_listed : List (ℕ × List ℕ) → ℕ × ℕ → Bool
+is_listed memory page = not (is_zero_page memory page)
+
+abbrev keys : ℕ → List ℕ → ℕ → List (ℕ × ℕ)
+keys number bytes count = map (λ page. (number, page)) (filter (is_kept bytes) (range_with_len 0 count))
+
+keys_of_object : (memory : List (ℕ × List ℕ)) (o : ObjectRec) (e : ℕ × List ℕ) → IsFound memory o e → map place_of (pages_of e) ≡ filter (is_listed memory) (all_pages_of o)
+unfolding pages_up_to
+keys_of_object memory o e found =
+    let count : length e.1 / 4096 ≡ o.pages = omega (arith, found.size) in
+    map_map place_of (page_with e.0 e.1) (filter (is_kept e.1) (range_with_len 0 (length e.1 / 4096)))
+    ∙ ap (λ (n : ℕ). keys n e.1 (length e.1 / 4096)) found.number
+    ∙ ap (λ (n : ℕ). keys o.number e.1 n) count
+    ∙ ap (λ (bytes : List ℕ). keys o.number bytes o.pages) (sym found.bytes)
+    ∙ sym (filter_map (is_listed memory) (λ (page : ℕ). (o.number, page)) (range_with_len 0 o.pages))
+
+keys_of_all : (memory : List (ℕ × List ℕ)) (objects : List ObjectRec) (entries : List (ℕ × List ℕ)) → AllZip (IsFound memory) objects entries
+    → map place_of (flat_map pages_of entries) ≡ filter (is_listed memory) (flat_map all_pages_of objects)
+keys_of_all memory [] [] found = refl
+keys_of_all memory [] (e ∷ entries) found = absurd found
+keys_of_all memory (o ∷ objects) [] found = absurd found
+keys_of_all memory (o ∷ objects) (e ∷ entries) found =
+    map-append place_of (pages_of e) (flat_map pages_of entries)
+    ∙ ap₂ (λ (x y : List (ℕ × ℕ)). x ++ y) (keys_of_object memory o e found.0) (keys_of_all memory objects entries found.1)
+    ∙ sym (filter-append (is_listed memory) (all_pages_of o) (flat_map all_pages_of objects))
+
+module _ (g : Group) (valid : GroupIsValid g) where
+  objects_rise : IsOrdered IsLower g.frame.objects
+  unfolding Rise
+  objects_rise = ordered_of_pairs IsLower g.frame.objects valid.frame.order.objects
+
+  all_found : AllZip (IsFound g.memory) g.frame.objects g.memory
+  all_found = found_all g.frame.objects g.memory valid.memory objects_rise
+
+  -- the pages placed are those that aren't all zero
+  pub keys_are : map place_of (pages_in g.memory) ≡ nonzero_pages g
+  unfolding pages_in nonzero_pages all_pages
+  keys_are = keys_of_all g.memory g.frame.objects g.memory all_found
+
+-- ---- the bytes of the pages placed
+
+-- a page has its bytes in the memory, and is whole
+pub record HasBytes (memory : List (ℕ × List ℕ)) (p : Page) : Type 0 where
+  pub bytes : p.bytes ≡ page_bytes memory (place_of p)
+  pub whole : length p.bytes ≡ 4096
+
+object_bytes : (memory : List (ℕ × List ℕ)) (o : ObjectRec) (e : ℕ × List ℕ) → IsFound memory o e → AllByRecursion (HasBytes memory) (pages_of e)
+unfolding pages_up_to
+object_bytes memory o e found =
+    let count = length e.1 / 4096 in
+    let own : bytes_in memory e.0 ≡ e.1 = ap (bytes_in memory) found.number ∙ found.bytes in
+    each_map (HasBytes memory) (page_with e.0 e.1) (filter (is_kept e.1) (range_with_len 0 count))
+    (each_filter (λ (page : ℕ). HasBytes memory (page_with e.0 e.1 page)) (is_kept e.1) (range_with_len 0 count)
+    (each_weaker (λ (page : ℕ). (0 ≤ page) × (page < 0 + count)) (λ (page : ℕ). HasBytes memory (page_with e.0 e.1 page)) (range_with_len 0 count)
+    (λ page within. record {
+      bytes = ap (λ (bytes : List ℕ). page_in bytes page) (sym own);
+      whole = let fits : 4096 * page + 4096 ≤ length e.1 = omega (arith, within.1) in omega (arith, length-take 4096 (drop (4096 * page) e.1), length-drop (4096 * page) e.1);
+    }) (each_in_range 0 count)))
+
+bytes_of_all : (memory : List (ℕ × List ℕ)) (objects : List ObjectRec) (entries : List (ℕ × List ℕ)) → AllZip (IsFound memory) objects entries → AllByRecursion (HasBytes memory) (flat_map pages_of entries)
+bytes_of_all memory [] [] found = tt
+bytes_of_all memory [] (e ∷ entries) found = absurd found
+bytes_of_all memory (o ∷ objects) [] found = absurd found
+bytes_of_all memory (o ∷ objects) (e ∷ entries) found = each_append (HasBytes memory) (pages_of e) (flat_map pages_of entries) (object_bytes memory o e found.0) (bytes_of_all memory objects entries found.1)
+
+pub bytes_are : (g : Group) → GroupIsValid g → AllByRecursion (HasBytes g.memory) (pages_in g.memory)
+unfolding pages_in
+bytes_are g valid = bytes_of_all g.memory g.frame.objects g.memory (all_found g valid)
+
+-- they are the group's pages
+pub are_pages : (g : Group) → GroupIsValid g → ArePagesOf g (pages_in g.memory)
+are_pages g valid = record {
+  which = keys_are g valid;
+  bytes = each_weaker (HasBytes g.memory) (λ (p : Page). p.bytes ≡ page_bytes g.memory (place_of p)) (pages_in g.memory) (λ p has. has.bytes) (bytes_are g valid);
+}
+
+pub are_whole : (g : Group) → GroupIsValid g → AllByRecursion (λ (p : Page). length p.bytes ≡ 4096) (pages_in g.memory)
+are_whole g valid = each_weaker (HasBytes g.memory) (λ (p : Page). length p.bytes ≡ 4096) (pages_in g.memory) (λ p has. has.whole) (bytes_are g valid)
+
+-- ---- one page more of an object
+
+pub range_more : (a n : ℕ) → range_with_len a (n + 1) ≡ range_with_len a n ++ (a + n) ∷ []
+range_more a n = ap (range_with_len a) (add-one n) ∙ by_length a n
+  where
+    by_length : (a n : ℕ) → range_with_len a (suc n) ≡ range_with_len a n ++ (a + n) ∷ []
+    by_length a zero = let same : a ≡ a + 0 = omega arith in ap (λ k. k ∷ []) same
+    by_length a (suc n) = let same : a + 1 + n ≡ a + suc n = omega arith in ap (λ ks. a ∷ ks) (by_length (a + 1) n ∙ ap (λ k. range_with_len (a + 1) n ++ k ∷ []) same)
+
+abbrev one_page : ℕ → List ℕ → ℕ → Bool → List Page
+one_page object bytes page kept = map (page_with object bytes) (cond kept (page ∷ []) [])
+
+page_more : (object : ℕ) (bytes : List ℕ) (n : ℕ) → pages_up_to object bytes (n + 1) ≡ pages_up_to object bytes n ++ one_page object bytes n (is_kept bytes n)
+unfolding pages_up_to
+page_more object bytes n =
+    ap (λ (l : List ℕ). map (page_with object bytes) (filter (is_kept bytes) l)) (range_more 0 n ∙ ap (λ (k : ℕ). range_with_len 0 n ++ k ∷ []) (omega arith))
+    ∙ ap (map (page_with object bytes)) (filter-append (is_kept bytes) (range_with_len 0 n) (n ∷ []))
+    ∙ map-append (page_with object bytes) (filter (is_kept bytes) (range_with_len 0 n)) (cond (is_kept bytes n) (n ∷ []) [])
+
+kept_more : (object : ℕ) (bytes : List ℕ) (n : ℕ) → is_kept bytes n ≡ true → pages_up_to object bytes (n + 1) ≡ pages_up_to object bytes n ++ page_with object bytes n ∷ []
+kept_more object bytes n is = page_more object bytes n ∙ ap (λ (b : Bool). pages_up_to object bytes n ++ one_page object bytes n b) is
+
+zero_more : (object : ℕ) (bytes : List ℕ) (n : ℕ) → is_kept bytes n ≡ false → pages_up_to object bytes (n + 1) ≡ pages_up_to object bytes n
+zero_more object bytes n is = page_more object bytes n ∙ ap (λ (b : Bool). pages_up_to object bytes n ++ one_page object bytes n b) is ∙ append-nil (pages_up_to object bytes n)
+
+pub no_pages : (object : ℕ) (bytes : List ℕ) → pages_up_to object bytes 0 ≡ []
+unfolding pages_up_to
+no_pages object bytes = refl
+
+-- ---- one object more of a memory
+
+pub no_objects : pages_in [] ≡ []
+unfolding pages_in
+no_objects = refl
+
+pub object_more : (memory : List (ℕ × List ℕ)) (o : ℕ × List ℕ) → pages_in (memory ++ o ∷ []) ≡ pages_in memory ++ pages_of o
+unfolding pages_in
+object_more memory o = flat_map-append pages_of memory (o ∷ []) ∙ ap (λ (l : List Page). flat_map pages_of memory ++ l) (append-nil (pages_of o))
+
+-- ---- the steps of the loops
+
+pub part_is : (bytes : List ℕ) (n : ℕ) → take (4096 * n + 4096 - 4096 * n) (drop (4096 * n) bytes) ≡ page_in bytes n
+part_is bytes n = let size : 4096 * n + 4096 - 4096 * n ≡ 4096 = omega arith in ap (λ (k : ℕ). take k (drop (4096 * n) bytes)) size
+
+pub page_added : (object : ℕ) (bytes part : List ℕ) (n : ℕ) (before now next : List Page) → part ≡ page_in bytes n → is_zero part ≡ false
+    → now ≡ before ++ pages_up_to object bytes n → next ≡ now ++ record { object = object; page = n; bytes = part } ∷ [] → next ≡ before ++ pages_up_to object bytes (n + 1)
+page_added object bytes part n before now next is some first second =
+    let kept : is_kept bytes n ≡ true = ap (λ (l : List ℕ). not (is_zero l)) (sym is) ∙ ap not some in
+    second
+    ∙ ap (λ (l : List Page). l ++ record { object = object; page = n; bytes = part } ∷ []) first
+    ∙ append_assoc before (pages_up_to object bytes n) (record { object = object; page = n; bytes = part } ∷ [])
+    ∙ ap (λ (l : List ℕ). before ++ (pages_up_to object bytes n ++ record { object = object; page = n; bytes = l } ∷ [])) is
+    ∙ ap (λ (l : List Page). before ++ l) (sym (kept_more object bytes n kept))
+
+pub page_passed : (object : ℕ) (bytes part : List ℕ) (n : ℕ) (before now : List Page) → part ≡ page_in bytes n → is_zero part ≡ true → now ≡ before ++ pages_up_to object bytes n → now ≡ before ++ pages_up_to object bytes (n + 1)
+page_passed object bytes part n before now is none first =
+    let zeros : is_kept bytes n ≡ false = ap (λ (l : List ℕ). not (is_zero l)) (sym is) ∙ ap not none in
+    first ∙ ap (λ (l : List Page). before ++ l) (sym (zero_more object bytes n zeros))
+
+pub object_added : {X : Type 0} (f : X → ℕ × List ℕ) (memory : List X) (i : ℕ) (x : X) (number : ℕ) (bytes : List ℕ) (now next : List Page) → i < length memory → x ≡ get_or memory i x → (number, bytes) ≡ f x
+    → now ≡ pages_in (map f (take i memory)) → next ≡ now ++ pages_of (number, bytes) → next ≡ pages_in (map f (take (i + 1) memory))
+object_added f memory i x number bytes now next lt is at first second =
+    let longer : map f (take (i + 1) memory) ≡ map f (take i memory) ++ f x ∷ [] = map_more f memory i x lt ∙ ap (λ y. map f (take i memory) ++ f y ∷ []) (sym is) in
+    second
+    ∙ ap (λ (l : List Page). l ++ pages_of (number, bytes)) first
+    ∙ ap (λ (o : ℕ × List ℕ). pages_in (map f (take i memory)) ++ pages_of o) at
+    ∙ sym (ap pages_in longer ∙ object_more (map f (take i memory)) (f x))
+
+-- ---- what was gathered
+
+pub gathered_pages : {E : Type 0} (r : Result (Vec Page Global) E) (g : Group) (memory : List (ℕ × List ℕ)) → g.memory ≡ memory → GroupIsValid g → IfOk r (λ pages. pages.items ≡ pages_in memory) → IfOk r (λ pages. ArePagesOf g pages.items)
+gathered_pages (Ok pages) g memory same valid is = subst (ArePagesOf g) (sym (is ∙ ap pages_in (sym same))) (are_pages g valid)
+gathered_pages (Err e) g memory same valid is = tt
+
+pub gathered_whole : {E : Type 0} (r : Result (Vec Page Global) E) (g : Group) (memory : List (ℕ × List ℕ)) → g.memory ≡ memory → GroupIsValid g → IfOk r (λ pages. pages.items ≡ pages_in memory)
+    → IfOk r (λ pages. AllByRecursion (λ (p : Page). length p.bytes ≡ 4096) pages.items)
+gathered_whole (Ok pages) g memory same valid is = subst (AllByRecursion (λ (p : Page). length p.bytes ≡ 4096)) (sym (is ∙ ap pages_in (sym same))) (are_whole g valid)
+gathered_whole (Err e) g memory same valid is = tt
+
+pub no_gathered : (g : Group) → g.memory ≡ [] → GroupIsValid g → ArePagesOf g []
+no_gathered g none valid = subst (ArePagesOf g) (ap pages_in none ∙ no_objects) (are_pages g valid)
+
+-- ---- how many blocks they take
+
+map_of_map : {X Y Z : Type 0} (f : Y → Z) (h : X → Y) (xs : List X) → map f (map h xs) ≡ map (λ x. f (h x)) xs
+map_of_map f h [] = refl
+map_of_map f h (x ∷ xs) = ap (λ zs. f (h x) ∷ zs) (map_of_map f h xs)
+
+pub cost_is : (g : Group) (pages : List Page) → ArePagesOf g pages → needs g.frame pages ≡ cost_of g
+cost_is g pages are =
+    let places : map anywhere pages ≡ map unplaced (nonzero_pages g) = sym (map_of_map unplaced place_of pages) ∙ ap (map unplaced) are.which in
+    ap (λ (n : ℕ). n + metas_for (length (record_bytes g.frame (map anywhere pages)))) (sym (length-map pages place_of) ∙ ap length are.which)
+    ∙ ap (λ (ps : List PagePlace). length (nonzero_pages g) + metas_for (length (record_bytes g.frame ps))) places
+
+-- a plan that is refused for want of blocks
+pub full_needs : (count : ℕ) (g : Group) (k : KeptBlocks) (f : Frame) (pages : List Page) (need free : ℕ) → f ≡ g.frame → ArePagesOf g pages → IsPlanRefused count k.used.items f pages (Full need free) → NeedsMore count g k need free
+full_needs count g k f pages need free same are full = record {
+  flags = full.flags;
+  flags_are = full.flags_are;
+  free_is = full.free_is;
+  need_is = full.need_is ∙ ap (λ (x : Frame). needs x pages) same ∙ cost_is g pages are;
+  too_few = full.too_few;
+}

@@ -1,0 +1,42 @@
+use Rattle.std.proofs.Common.{◌+◌, ap, ◌∙◌, subst, List, ◌∷◌, ◌++◌, []}
+use Rattle.dev_traits.specs.Since.{LeavesOnly}
+use Rattle.group_defs.specs.declared.run.AckMark.{AckMark}
+use Rattle.group_defs.specs.declared.run.Mark.{Mark}
+use Rattle.group_defs.specs.declared.run.Mark.TheVariants.{Ack}
+use Rattle.commit_gate.specs.Whole.{IsDuring, Reads, finished}
+use Rattle.commit_gate.specs.declared.whole.Block.{Block}
+use Rattle.solo_engine.proofs.Committing.{leaves_kept}
+use Rattle.solo_engine.proofs.persisting.persist.Goals as goal
+
+pub returns-in-Ok-clause-committed : goal.returns-in-Ok-clause-committed
+returns-in-Ok-clause-committed g c =
+    let k = c.args.kept.now in
+    let r = c.args.ready.now in
+    let before = g.D.Disk.view c.args.disk in
+    let after = g.D.Disk.view c.in-Ok.disk in
+    λ group ready. record {
+      blocks = c.in-Ok.ensures.blocks;
+      later = c.in-Ok.ensures.images.later;
+      faults = c.in-Ok.ensures.later;
+      leaves = leaves_kept before.blocks group k r before after ready (λ bytes told. g.met.D.Disk.image_size c.args.disk _ bytes (g.met.D.Disk.reading_left c.args.disk bytes told))
+          (subst (λ (l : List Block). LeavesOnly before after (IsDuring k.target l r.plan.body before.reading)) c.as_slice-blocks.ensures c.in-Ok.ensures.images);
+      only = c.in-Ok.ensures.only;
+      reads = subst (λ (l : List Block). Reads (finished k.target l r.plan.body) before after) c.as_slice-blocks.ensures c.in-Ok.ensures.done;
+      trace_is = c.acknowledge.ensures.trace ∙ ap (λ e. c.args.log.now.trace.items ++ Ack e ∷ []) ready.next.epoch;
+      acks_is = c.acknowledge.ensures.acks ∙ ap (λ e. c.args.log.now.acks.items ++ record { epoch = e; at = c.moment.result } ∷ []) ready.next.epoch
+          ∙ ap (λ at. c.args.log.now.acks.items ++ record { epoch = k.epoch + 1; at = at } ∷ []) c.moment.ensures;
+    }
+
+pub returns-in-Err-clause-uncommitted : goal.returns-in-Err-clause-uncommitted
+returns-in-Err-clause-uncommitted g c =
+    let k = c.args.kept.now in
+    let r = c.args.ready.now in
+    let before = g.D.Disk.view c.args.disk in
+    let after = g.D.Disk.view c.in-Err.bad.disk in
+    λ group ready. record {
+      blocks = c.in-Err.ensures.blocks_err;
+      later = c.in-Err.ensures.images_err.later;
+      leaves = leaves_kept before.blocks group k r before after ready (λ bytes told. g.met.D.Disk.image_size c.args.disk _ bytes (g.met.D.Disk.reading_left c.args.disk bytes told))
+          (subst (λ (l : List Block). LeavesOnly before after (IsDuring k.target l r.plan.body before.reading)) c.as_slice-blocks.ensures c.in-Err.ensures.images_err);
+      rose = c.in-Err.ensures.cause;
+    }

@@ -1,0 +1,148 @@
+-- What the parts of an interval do: the turns up to a barrier, the barrier with its fetch, the plan, and the commit with the
+-- release.
+use Rattle.std.specs.Prelude.{◌≡◌, ◌⊎◌, ◌↔◌, ◌≤◌, ◌<◌, ◌+◌, ◌-◌, ◌*◌, ℕ, ⊤, Bool, IsTrue, List, [], ◌∷◌, ◌++◌, length, take, drop}
+use Rattle.std.specs.List.{filter_map}
+use Rattle.std.specs.Option.{ForSome}
+use Rattle.dev_traits.specs.Counts.{Rose}
+use Rattle.dev_traits.specs.Disk.{DiskView, OnlyReading}
+use Rattle.dev_traits.specs.Since.{LeavesOnly}
+use Rattle.dev_traits.specs.Outside.{SinkView, Takes}
+use Rattle.group_defs.specs.declared.frame.Out.{Out}
+use Rattle.group_defs.specs.declared.run.AckMark.{AckMark}
+use Rattle.group_defs.specs.declared.run.Limits.{Limits}
+use Rattle.group_defs.specs.declared.run.Mark.{Mark}
+use Rattle.group_defs.specs.declared.run.Mark.TheVariants.{Barrier, Fetch, Ack}
+use Rattle.group_defs.specs.Ends.{IsDone, IsStuck}
+use Rattle.group_defs.specs.Group.{Group}
+use Rattle.group_defs.specs.Legal.{ready}
+use Rattle.group_defs.specs.Output.{last_position}
+use Rattle.group_defs.specs.Solo.{IsSoloSoFar}
+use Rattle.group_defs.specs.Trace.{barrier}
+use Rattle.block_alloc.specs.Free.{MayBeFree, free_count, is_free}
+use Rattle.ckpt_records.specs.Holds.{IsCheckpointed}
+use Rattle.commit_gate.specs.Whole.{Reads, finished, numbers}
+use Rattle.commit_gate.specs.declared.whole.Block.{Block}
+use Rattle.ckpt_chain.specs.declared.slot.SlotBody.{SlotBody}
+use Rattle.solo_engine.specs.Answers.{cost_of}
+use Rattle.solo_engine.specs.Going.{StandsAt, acked_epoch}
+use Rattle.solo_engine.specs.Keeping.{Kept, nothing, checkpoint, Keeps, KeepsOrHolds, IsPlan}
+use Rattle.solo_engine.specs.Known.{IsAfter, Knows}
+use Rattle.solo_engine.specs.declared.interval.Ready.{Ready}
+use Rattle.solo_engine.specs.declared.kept.KeptBlocks.{KeptBlocks}
+use Rattle.solo_engine.specs.declared.run.RunAnswer.{RunAnswer}
+use Rattle.solo_engine.specs.declared.run.RunAnswer.TheVariants.{Done, Stuck, Spent, DiskFault, SinkFault, DiskFull, NoMemory}
+
+-- marks more, none of which is an acknowledgement
+pub record IsLonger (trace trace' : List Mark) : Type 0 where
+  pub more : List Mark
+  pub trace_is : trace' ≡ trace ++ more
+  pub unacked : filter_map acked_epoch more ≡ []
+
+-- Some turns were made: the trace is the beginning of a run on one thread.
+pub record StopsTurning (limits : Limits) (trace trace' : List Mark) (g : Group) (made : ℕ) : Type 0 where
+  pub longer : IsLonger trace trace'
+  pub so_far : (start : Group) (origin epoch : ℕ) → StandsAt start origin limits trace g made 0 epoch → IsSoloSoFar start origin limits trace'
+
+-- a barrier is due
+abbrev pub IsDue : Limits → Group → ℕ → ℕ → Type 0
+IsDue limits g made since = (0 < since) × ((since ≡ limits.every) ⊎ ((made ≡ limits.turns) ⊎ (ready g ≡ [])))
+
+-- So many turns were made since the barrier.
+pub record HasTurned (limits : Limits) (trace trace' : List Mark) (g g' : Group) (made made' since : ℕ) : Type 0 where
+  pub longer : IsLonger trace trace'
+  pub made_is : made' ≡ made + since
+  pub within : made' ≤ limits.turns
+  pub stands : (start : Group) (origin epoch : ℕ) → StandsAt start origin limits trace g made 0 epoch → StandsAt start origin limits trace' g' made' since epoch
+  pub grown : last_position g'.frame.out ≤ last_position g.frame.out + 1048576 * since
+
+-- Turns up to the barrier, which is due.
+pub record ComesToBarrier (limits : Limits) (trace trace' : List Mark) (g g' : Group) (made made' : ℕ) : Type 0 where
+  pub since : ℕ
+  pub turned : HasTurned limits trace trace' g g' made made' since
+  pub due : IsDue limits g' made' since
+
+-- The barrier after this epoch, and its fetch.
+pub record IsFetched (limits : Limits) (epoch : ℕ) (trace trace' : List Mark) (g g' : Group) (made made' : ℕ) : Type 0 where
+  pub marks : List Mark
+  pub before : Group
+  pub comes : ComesToBarrier limits trace marks g before made made'
+  pub trace_is : trace' ≡ (marks ++ Barrier (epoch + 1) ∷ []) ++ Fetch (epoch + 1) ∷ []
+  pub group_is : g' ≡ barrier before
+  pub checkpointed : IsCheckpointed g'
+  pub from_is : g'.frame.out.from ≡ g.frame.out.mark
+
+-- The commit of a group to a disk of so many blocks is planned, and what is known after it.
+pub record IsReady (count : ℕ) (g : Group) (k : KeptBlocks) (r : Ready) : Type 0 where
+  pub plan : IsPlan count k.used.items (k.epoch + 1) g r.plan.blocks r.plan.body
+  pub next : IsAfter k (numbers r.plan.blocks) r.next
+
+-- The group needs more blocks than are free.
+pub record NeedsMore (count : ℕ) (g : Group) (k : KeptBlocks) (need free : ℕ) : Type 0 where
+  pub flags : List Bool
+  pub flags_are : (b : ℕ) → IsTrue (is_free flags b) ↔ MayBeFree count k.used.items b
+  pub free_is : free ≡ free_count flags
+  pub need_is : need ≡ cost_of g
+  pub too_few : free < need
+
+-- why there is no plan
+abbrev pub IsUnplanned : ℕ → Group → KeptBlocks → RunAnswer → Type 0
+IsUnplanned count g k (DiskFull need free) = NeedsMore count g k need free
+IsUnplanned count g k NoMemory = ⊤
+IsUnplanned count g k Done = ⊥
+IsUnplanned count g k Stuck = ⊥
+IsUnplanned count g k Spent = ⊥
+IsUnplanned count g k DiskFault = ⊥
+IsUnplanned count g k SinkFault = ⊥
+
+-- what stops leave during a commit after what is known to be kept
+abbrev pub LeavesKept : KeptBlocks → Group → DiskView → DiskView → Type 0
+LeavesKept k g disk disk' = ForSome disk.reading (λ r. (kept : Kept) → Knows k kept → Keeps r kept → LeavesOnly disk disk' (KeepsOrHolds kept g))
+
+-- The commit failed.
+pub record IsUncommitted (k : KeptBlocks) (g : Group) (disk disk' : DiskView) : Type 0 where
+  pub blocks : disk'.blocks ≡ disk.blocks
+  pub later : disk.moment ≤ disk'.moment
+  pub leaves : LeavesKept k g disk disk'
+  pub rose : Rose disk.faults disk'.faults
+
+-- It was acknowledged: the plan is the disk's reading, and nothing else could be left.
+pub record IsCommitted (k : KeptBlocks) (g : Group) (planned : List Block) (body : SlotBody) (disk disk' : DiskView) (trace trace' : List Mark) (acks acks' : List AckMark) : Type 0 where
+  pub blocks : disk'.blocks ≡ disk.blocks
+  pub later : disk.moment ≤ disk'.moment
+  pub faults : disk.faults ≤ disk'.faults
+  pub leaves : LeavesKept k g disk disk'
+  pub only : OnlyReading disk'
+  pub reads : Reads (finished k.target planned body) disk disk'
+  pub trace_is : trace' ≡ trace ++ Ack (k.epoch + 1) ∷ []
+  pub acks_is : acks' ≡ acks ++ record { epoch = k.epoch + 1; at = disk'.moment } ∷ []
+
+-- how a run ends whose group has no turn left
+abbrev pub EndsIn : Group → RunAnswer → Type 0
+EndsIn g Done = IsDone g
+EndsIn g Stuck = IsStuck g
+EndsIn g Spent = (IsDone g → ⊥) × (IsStuck g → ⊥) × (ready g ≡ [] → ⊥)
+EndsIn g DiskFault = ⊥
+EndsIn g SinkFault = ⊥
+EndsIn g (DiskFull need free) = ⊥
+EndsIn g NoMemory = ⊥
+
+-- what is kept when a run begins with this group: nothing, or its checkpoint
+abbrev pub IsFirstKept : Group → Kept → Type 0
+IsFirstKept g nothing = ⊤
+IsFirstKept g (checkpoint epoch h pages metas slot) = h ≡ g
+
+-- what the output hasn't got of a group's
+abbrev pub rest_of : Out → SinkView → List ℕ
+rest_of o out = drop (out.count - o.from) o.bytes
+
+-- The output took all of it.
+pub record ReleasesRest (o : Out) (out out' : SinkView) : Type 0 where
+  pub taken : Takes (rest_of o out) out out'
+  pub faults : out.faults ≤ out'.faults
+
+-- The output failed, and took the first bytes of it.
+pub record ReleasesPart (o : Out) (out out' : SinkView) : Type 0 where
+  pub size : ℕ
+  pub within : size ≤ length (rest_of o out)
+  pub taken : Takes (take size (rest_of o out)) out out'
+  pub rose : Rose out.faults out'.faults

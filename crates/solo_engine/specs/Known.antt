@@ -1,0 +1,40 @@
+-- What the engine knows of what a disk keeps.
+use Rattle.std.specs.Prelude.{◌≡◌, ◌↔◌, ◌+◌, ℕ, List, [], ◌∷◌, ◌++◌, slice_index}
+use Rattle.ckpt_chain.specs.Chain.{Has}
+use Rattle.ckpt_chain.specs.Slot.{gate_place}
+use Rattle.ckpt_chain.specs.declared.slot.Slot.{Slot}
+use Rattle.ckpt_chain.specs.declared.slot.Slot.TheVariants.{A, B}
+use Rattle.ckpt_records.specs.Holds.{block_numbers}
+use Rattle.ckpt_records.specs.declared.origin.Origin.{Origin}
+use Rattle.solo_engine.specs.Keeping.{Kept, epoch_after, other, target_after, used_by}
+use Rattle.solo_engine.specs.declared.kept.KeptBlocks.{KeptBlocks}
+
+-- the gate byte of a slot, as the engine knows it
+abbrev pub gate_in : KeptBlocks → Slot → ℕ
+gate_in k A = k.gate_a
+gate_in k B = k.gate_b
+
+-- It knows the epoch that comes next, the blocks in use, and the slot of the next commit.
+pub record Knows (k : KeptBlocks) (kept : Kept) : Type 0 where
+  pub epoch : epoch_after kept ≡ k.epoch + 1
+  pub used : (b : ℕ) → Has b k.used.items ↔ Has b (used_by kept)
+  pub target : target_after kept ≡ k.target
+
+-- ... and the gates
+abbrev pub KnowsGates : KeptBlocks → List ℕ → Type 0
+KnowsGates k image = (slot : Slot) → slice_index image (gate_place slot) ≡ gate_in k slot
+
+-- after the next commit, which writes blocks of these numbers: its slot's gate is open, and the other one comes next
+pub record IsAfter (k : KeptBlocks) (numbers : List ℕ) (k' : KeptBlocks) : Type 0 where
+  pub epoch : k'.epoch ≡ k.epoch + 1
+  pub used : k'.used.items ≡ numbers
+  pub target : k'.target ≡ other k.target
+  pub opened : gate_in k' k.target ≡ 1
+  pub stays : gate_in k' (other k.target) ≡ gate_in k (other k.target)
+
+-- at a run's start: the epoch, the blocks and the gates of its origin, and the slot that its placement doesn't have
+pub record IsKeptOf (o : Origin) (k : KeptBlocks) : Type 0 where
+  pub epoch : k.epoch ≡ o.epoch
+  pub used : k.used.items ≡ o.placement.metas ++ block_numbers o.placement.pages
+  pub target : k.target ≡ other o.placement.slot
+  pub gates : o.gates ≡ k.gate_a ∷ k.gate_b ∷ []

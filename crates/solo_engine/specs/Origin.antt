@@ -1,0 +1,72 @@
+-- What a run begins with: its limits, its disk, and the group of its origin.
+use Rattle.std.specs.Prelude.{◌≡◌, ◌⊎◌, ◌<◌, ◌≤◌, ◌^◌, ℕ, List, [], ◌∷◌, length, map, slice_index, None}
+use Rattle.std.specs.List.{AllByRecursion}
+use Rattle.dev_traits.specs.Outside.{SinkView}
+use Rattle.group_defs.specs.declared.run.Limits.{Limits}
+use Rattle.group_defs.specs.Output.{last_position}
+use Rattle.group_defs.specs.Touched.{nonzero_pages}
+use Rattle.ckpt_chain.specs.Slot.{newest, gate_place}
+use Rattle.ckpt_chain.specs.declared.slot.Slot.TheVariants.{A, B}
+use Rattle.ckpt_records.specs.Holds.{IsCheckpointed, page_of}
+use Rattle.ckpt_records.specs.Spells.{PagesRise}
+use Rattle.ckpt_records.specs.declared.origin.Origin.{Origin}
+use Rattle.restore_group.specs.Outcome.{IsRestored}
+use Rattle.restore_group.specs.Parts.{group_of, HasLayers}
+
+-- the number of blocks that a disk may have
+abbrev pub HasSize : ℕ → Type 0
+HasSize blocks = (16 ≤ blocks) × (blocks ≤ 1048576)
+
+-- How many turns a run on one thread may have, how many steps a turn, and how many turns come before a barrier.
+pub record LimitsFit (limits : Limits) : Type 0 where
+  pub turns : (1 ≤ limits.turns) × (limits.turns ≤ 1000000)
+  pub quantum : (1 ≤ limits.quantum) × (limits.quantum ≤ 100000)
+  pub every : (1 ≤ limits.every) × (limits.every ≤ 10000)
+
+-- The origin of a new disk: a valid group without output, no block in use, and slot A is the next one.
+pub record IsNew (o : Origin) : Type 0 where
+  pub epoch : o.epoch ≡ 0
+  pub layers : HasLayers o.parts
+  pub group : IsCheckpointed (group_of o.parts)
+  pub no_output : o.parts.frame.out.bytes ≡ []
+  pub no_pages : o.placement.pages ≡ []
+  pub no_metas : o.placement.metas ≡ []
+  pub slot : o.placement.slot ≡ B
+
+-- The origin of a checkpoint on a disk of so many blocks: a valid group, and a placement of just its pages that aren't all
+-- zero and of its meta blocks.
+pub record IsOld (count : ℕ) (o : Origin) : Type 0 where
+  pub epoch : 1 ≤ o.epoch
+  pub layers : HasLayers o.parts
+  pub group : IsCheckpointed (group_of o.parts)
+  pub listed : map page_of o.placement.pages ≡ nonzero_pages (group_of o.parts)
+  pub rising : PagesRise o.placement.pages
+  pub placed : AllByRecursion (λ p. (2 ≤ p.block) × (p.block < count)) o.placement.pages
+  pub some_meta : 1 ≤ length o.placement.metas
+  pub metas : AllByRecursion (λ b. (2 ≤ b) × (b < count)) o.placement.metas
+
+-- An origin for a disk of so many blocks: of a new disk, or of a checkpoint.
+abbrev pub IsOrigin : ℕ → Origin → Type 0
+IsOrigin count o = IsNew o ⊎ IsOld count o
+
+-- the gate bytes of slots A and B
+abbrev pub gates_of : List ℕ → List ℕ
+gates_of image = slice_index image (gate_place A) ∷ slice_index image (gate_place B) ∷ []
+
+-- What the bytes of the disk are to the origin: they hold its epoch and group at its placement; or no slot is open, and
+-- the origin is a new disk's. Its gates are theirs.
+abbrev pub IsOriginOf : List ℕ → Origin → Type 0
+IsOriginOf image o = ((1 ≤ o.epoch) × IsRestored image o) ⊎ ((o.epoch ≡ 0) × (newest image ≡ None) × (o.gates ≡ gates_of image))
+
+-- Its numbers leave room for a run.
+pub record IsUnworn (o : Origin) : Type 0 where
+  pub epoch : o.epoch ≤ 2 ^ 62
+  pub output : last_position o.parts.frame.out ≤ 2 ^ 62
+  pub object : o.parts.frame.next.object ≤ 2 ^ 62
+  pub descr : o.parts.frame.next.descr ≤ 2 ^ 62
+  pub pipe : o.parts.frame.next.pipe ≤ 2 ^ 62
+  pub pair : o.parts.frame.next.pair ≤ 2 ^ 62
+
+-- The output has what the origin's checkpoint says, or a part of it.
+abbrev pub IsWithin : SinkView → Origin → Type 0
+IsWithin out o = (o.parts.frame.out.from ≤ out.count) × (out.count ≤ last_position o.parts.frame.out)
