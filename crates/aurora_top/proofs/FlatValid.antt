@@ -1,11 +1,12 @@
--- A flat group whose numbers are in range is valid, and so is what is left of it.
-use Rattle.std.proofs.Common.{◌≡◌, ◌⊎◌, inl, inr, ℕ, ◌%◌, ◌<◌, ◌≤◌, ◌^◌, true, false, List, [], ◌∷◌, length, refl, All, AllPairs, Any, arith}
-use Rattle.std.proofs.lemmas.List.Elements.{All-nil, All-cons}
+-- The first group of an image is valid.
+use Rattle.std.proofs.Common.{◌≡◌, ◌⊎◌, inl, inr, ℕ, ◌+◌, ◌-◌, ◌*◌, ◌<◌, ◌≤◌, ◌^◌, true, false, List, [], ◌∷◌, ◌++◌, length, replicate, refl, All, AllPairs, Any, arith, length-append}
+use Rattle.std.proofs.lemmas.List.{length-replicate}
+use Rattle.std.proofs.lemmas.List.Elements.{All-append, All-cons, All-nil, All-replicate}
 use Rattle.std.proofs.lemmas.List.Kept.{AllPairs-cons}
-use Rattle.rv64_isa.specs.declared.regs.Regs.{Regs}
 use Rattle.group_defs.specs.declared.frame.Frame.{Frame}
 use Rattle.group_defs.specs.declared.frame.Out.{Out}
 use Rattle.group_defs.specs.declared.frame.Proc.{Proc}
+use Rattle.group_defs.specs.declared.frame.ProcState.TheVariants.{Running}
 use Rattle.group_defs.specs.declared.frame.ObjectRec.{ObjectRec}
 use Rattle.group_defs.specs.declared.maps.Mapping.{Mapping}
 use Rattle.group_defs.specs.declared.named_files.FileRec.{FileRec}
@@ -19,13 +20,13 @@ use Rattle.group_defs.specs.Mappings.{end_of, IsPlaced, IsInside, AreApart, Mapp
 use Rattle.group_defs.specs.Numbers.{AreBytes, RegsFit, NextFits, NumbersFit, NextIsAbove, NextValid}
 use Rattle.group_defs.specs.Objects.{is_of_file, maps_object, mappers, memory_objects, IsMappedAs, IsPrivateObject, IsMemoryObject, ObjectsValid}
 use Rattle.group_defs.specs.Order.{Rise, IsBefore, NamesRise, OwnListsRise, ListsRise}
-use Rattle.group_defs.specs.Output.{last_position}
 use Rattle.group_defs.specs.Processes.{BreakValid, RunningValid, ProcValid}
 use Rattle.group_defs.specs.Sizes.{ProcFits, MemoryFits, WithinLimits}
 use Rattle.group_defs.specs.Streams.{StreamsValid}
-use Rattle.group_defs.specs.Valid.{OutValid, FrameValid, GroupIsValid}
+use Rattle.group_defs.specs.Valid.{IsObject, OutValid, FrameValid, GroupIsValid}
 use Rattle.ckpt_records.specs.Holds.{IsCheckpointed}
-use Rattle.aurora_top.specs.Flat.{flat_objects, flat_opens, frame_with, running_process, running_group, ended_group}
+use Rattle.aurora_top.specs.Boot.{flat_group, flat_process, pages_for}
+use Rattle.aurora_top.proofs.ImagePages.{within_pages}
 
 -- ---- facts on lists of one, two and three entries
 
@@ -70,233 +71,210 @@ names_rise : NamesRise []
 unfolding NamesRise
 names_rise = pairs_none (λ (a b : FileRec). IsBefore a.name b.name)
 
--- ---- the running group
+-- ---- the frame of an image that takes so many pages
 
--- the ranges that the code's types give
-pub record RegsInRange (r : Regs) : Type 0 where
-  pub aligned : r.pc % 4 ≡ 0
-  pub pc : r.pc < 2 ^ 64
-  pub count : length r.x ≡ 31
-  pub regs : All (λ x. x < 2 ^ 64) r.x
+abbrev image_map : ℕ → Mapping
+image_map pages = record { start = 0x10000; pages = pages; prot = 7; shared = false; object = 0; first = 0 }
 
-abbrev running_frame : Regs → Out → Frame
-running_frame r out = frame_with (running_process r ∷ []) flat_objects flat_opens out
+abbrev stack_map : Mapping
+stack_map = record { start = 0x3fffffe000; pages = 1; prot = 3; shared = false; object = 1; first = 0 }
 
-limits_hold : (r : Regs) (out : Out) → WithinLimits (running_frame r out)
-unfolding ProcFits MemoryFits memory_objects is_of_file
-limits_hold r out = record {
-  proc_count = omega arith;
-  procs = all_one ProcFits (running_process r) (omega arith, omega arith, all_three (λ (d : ℕ × ℕ). d.0 < 64) _ _ _ (omega arith) (omega arith) (omega arith));
-  memory = (omega arith, omega arith, all_two (λ (o : ObjectRec). o.pages ≤ 16384) _ _ (omega arith) (omega arith));
-  open_count = omega arith;
-  pipe_count = omega arith;
-  pipes = λ _ _ lt. absurd (omega arith);
-  pair_count = omega arith;
-  pairs = λ _ _ lt. absurd (omega arith);
-  file_count = omega arith;
-  files = λ _ _ lt. absurd (omega arith);
+abbrev first_process : ℕ → Proc
+first_process pages = record {
+  pid = 1;
+  parent = 0;
+  state = Running;
+  pc = 0x10000;
+  regs = 0 ∷ 0x3ffffff000 ∷ replicate 29 0;
+  brk_base = 0x10000 + 4096 * pages;
+  brk = 0x10000 + 4096 * pages;
+  maps = image_map pages ∷ stack_map ∷ [];
+  fds = (0, 0) ∷ (1, 1) ∷ (2, 1) ∷ [];
 }
 
-own_lists_rise : (r : Regs) → OwnListsRise (running_process r)
-unfolding OwnListsRise
-own_lists_rise r = (rise_two (λ (m : Mapping). m.start) _ _ (omega arith), rise_three (λ (d : ℕ × ℕ). d.0) _ _ _ (omega arith) (omega arith))
+abbrev image_object : ℕ → ObjectRec
+image_object pages = record { number = 0; pages = pages }
 
-lists_rise : (r : Regs) (out : Out) → ListsRise (running_frame r out)
-lists_rise r out = record {
-  procs = rise_one (λ (p : Proc). p.pid) (running_process r);
-  own = all_one OwnListsRise (running_process r) (own_lists_rise r);
-  objects = rise_two (λ (o : ObjectRec). o.number) _ _ (omega arith);
-  opens = rise_two (λ (o : Open). o.number) _ _ (omega arith);
-  pipes = rise_none (λ (p : Pipe). p.number);
-  pairs = rise_none (λ (p : Pair). p.number);
-  files = names_rise;
+abbrev stack_object : ObjectRec
+stack_object = record { number = 1; pages = 1 }
+
+abbrev first_objects : ℕ → List ObjectRec
+first_objects pages = image_object pages ∷ stack_object ∷ []
+
+abbrev first_opens : List Open
+first_opens = record { number = 0; kind = Nothing; offset = 0; flags = 0 } ∷ record { number = 1; kind = Outside; offset = 0; flags = 0 } ∷ []
+
+abbrev first_frame : ℕ → Frame
+first_frame pages = record {
+  procs = first_process pages ∷ [];
+  objects = first_objects pages;
+  opens = first_opens;
+  pipes = [];
+  pairs = [];
+  files = [];
+  next = record { pid = 2; object = 2; descr = 2; pipe = 0; pair = 0 };
+  out = record { «from» = 0; mark = 0; bytes = [] };
 }
 
-numbers_fit : (r : Regs) (out : Out) → RegsInRange r → AreBytes out.bytes → NumbersFit (running_frame r out)
-unfolding RegsFit NextFits
-numbers_fit r out range bytes = record {
-  next = (omega arith, omega arith, omega arith, omega arith);
-  procs = all_one RegsFit (running_process r) (range.pc, range.count, range.regs);
-  pipes = λ _ _ lt. absurd (omega arith);
-  pairs = λ _ _ lt. absurd (omega arith);
-  out = bytes;
-}
+module _ (pages : ℕ) (some : 1 ≤ pages) (few : pages ≤ 4096) where
+  limits_hold : WithinLimits (first_frame pages)
+  unfolding ProcFits MemoryFits memory_objects is_of_file
+  limits_hold = record {
+    proc_count = omega arith;
+    procs = all_one ProcFits (first_process pages) (omega arith, omega arith, all_three (λ (d : ℕ × ℕ). d.0 < 64) _ _ _ (omega arith) (omega arith) (omega arith));
+    memory = (omega arith, omega (arith, few), all_two (λ (o : ObjectRec). o.pages ≤ 16384) _ _ (omega (arith, few)) (omega arith));
+    open_count = omega arith;
+    pipe_count = omega arith;
+    pipes = λ _ _ lt. absurd (omega arith);
+    pair_count = omega arith;
+    pairs = λ _ _ lt. absurd (omega arith);
+    file_count = omega arith;
+    files = λ _ _ lt. absurd (omega arith);
+  }
 
-next_holds : (r : Regs) (out : Out) → NextValid (running_frame r out)
-unfolding NextValid NextIsAbove
-next_holds r out = (
-  (all_one (λ (p : Proc). p.pid < 2) _ (omega arith), all_two (λ (o : ObjectRec). o.number < 2) _ _ (omega arith) (omega arith), all_two (λ (o : Open). o.number < 2) _ _ (omega arith) (omega arith), λ _ _ lt. absurd (omega arith), λ _ _ lt. absurd (omega arith)),
-  omega arith,
-  omega arith,
-)
+  own_lists_rise : OwnListsRise (first_process pages)
+  unfolding OwnListsRise
+  own_lists_rise = (rise_two (λ (m : Mapping). m.start) _ _ (omega arith), rise_three (λ (d : ℕ × ℕ). d.0) _ _ _ (omega arith) (omega arith))
 
-mappings_hold : (r : Regs) → MappingsValid flat_objects (running_process r)
-unfolding MappingsValid IsPlaced IsInside AreApart
-mappings_hold r = (
-  all_two (λ (m : Mapping). IsPlaced m × IsInside flat_objects m) _ _
-      ((refl, omega arith, omega arith, omega arith, omega arith), (0, record { number = 0; pages = 1 }, omega arith, refl, (refl, omega arith)))
-      ((refl, omega arith, omega arith, omega arith, omega arith), (1, record { number = 1; pages = 1 }, omega arith, refl, (refl, omega arith))),
-  pairs_two (λ (m n : Mapping). end_of m ≤ n.start) _ _ (omega arith),
-)
+  lists_rise : ListsRise (first_frame pages)
+  lists_rise = record {
+    procs = rise_one (λ (q : Proc). q.pid) (first_process pages);
+    own = all_one OwnListsRise (first_process pages) own_lists_rise;
+    objects = rise_two (λ (o : ObjectRec). o.number) _ _ (omega arith);
+    opens = rise_two (λ (o : Open). o.number) _ _ (omega arith);
+    pipes = rise_none (λ (q : Pipe). q.number);
+    pairs = rise_none (λ (q : Pair). q.number);
+    files = names_rise;
+  }
 
-private_object : (r : Regs) (number : ℕ) → IsMappedAs false number (running_process r)
-unfolding IsMappedAs
-private_object r number = all_two (λ (m : Mapping). m.object ≡ number → m.shared ≡ false) _ _ (λ _. refl) (λ _. refl)
+  registers_fit : All (λ x. x < 2 ^ 64) (0 ∷ 0x3ffffff000 ∷ replicate 29 0)
+  registers_fit = All-cons (λ x. x < 2 ^ 64) 0 (0x3ffffff000 ∷ replicate 29 0) (omega arith) (All-cons (λ x. x < 2 ^ 64) 0x3ffffff000 (replicate 29 0) (omega arith) (All-replicate (λ x. x < 2 ^ 64) 29 0 (omega arith)))
 
-memory_object : (r : Regs) (number : ℕ) → mappers (running_process r ∷ []) number ≡ 1 → IsMemoryObject (running_process r ∷ []) (record { number = number; pages = 1 })
-unfolding IsMemoryObject IsPrivateObject
-memory_object r number once = (omega arith, inr (all_one (IsMappedAs false number) (running_process r) (private_object r number), once))
+  numbers_fit : NumbersFit (first_frame pages)
+  unfolding RegsFit NextFits AreBytes
+  numbers_fit = record {
+    next = (omega arith, omega arith, omega arith, omega arith);
+    procs = all_one RegsFit (first_process pages) (omega arith, refl, registers_fit);
+    pipes = λ _ _ lt. absurd (omega arith);
+    pairs = λ _ _ lt. absurd (omega arith);
+    out = All-nil (λ b. b < 256);
+  }
 
-objects_hold : (r : Regs) (out : Out) → ObjectsValid (running_frame r out)
-unfolding ObjectsValid mappers maps_object
-objects_hold r out =
-    all_two (λ (o : ObjectRec). (is_of_file [] o.number ≡ true) ⊎ IsMemoryObject (running_process r ∷ []) o) _ _
-    (inr (memory_object r 0 refl)) (inr (memory_object r 1 refl))
+  next_holds : NextValid (first_frame pages)
+  unfolding NextValid NextIsAbove
+  next_holds = (
+    (all_one (λ (q : Proc). q.pid < 2) _ (omega arith), all_two (λ (o : ObjectRec). o.number < 2) _ _ (omega arith) (omega arith), all_two (λ (o : Open). o.number < 2) _ _ (omega arith) (omega arith), λ _ _ lt. absurd (omega arith), λ _ _ lt. absurd (omega arith)),
+    omega arith,
+    omega arith,
+  )
 
-is_owned : (r : Regs) (number : ℕ) → Any (λ (d : ℕ × ℕ). d.1 ≡ number) (running_process r).fds → IsOwned (running_process r ∷ []) number
-unfolding IsOwned Owns
-is_owned r number at = (0, running_process r, omega arith, refl, at)
+  mappings_hold : MappingsValid (first_objects pages) (first_process pages)
+  unfolding MappingsValid IsPlaced IsInside AreApart
+  mappings_hold = (
+    all_two (λ (m : Mapping). IsPlaced m × IsInside (first_objects pages) m) _ _
+        ((refl, some, omega arith, omega (arith, few), omega arith), (0, image_object pages, omega arith, refl, (refl, omega arith)))
+        ((refl, omega arith, omega arith, omega arith, omega arith), (1, stack_object, omega arith, refl, (refl, omega arith))),
+    pairs_two (λ (m n : Mapping). end_of m ≤ n.start) _ _ (omega (arith, few)),
+  )
 
-first_open : IsOpen flat_opens 0
-unfolding IsOpen
-first_open = (0, record { number = 0; kind = Nothing; offset = 0; flags = 0 }, omega arith, refl, refl)
+  private_object : (number : ℕ) → IsMappedAs false number (first_process pages)
+  unfolding IsMappedAs
+  private_object number = all_two (λ (m : Mapping). m.object ≡ number → m.shared ≡ false) _ _ (λ _. refl) (λ _. refl)
 
-second_open : IsOpen flat_opens 1
-unfolding IsOpen
-second_open = (1, record { number = 1; kind = Outside; offset = 0; flags = 0 }, omega arith, refl, refl)
+  memory_object : (o : ObjectRec) → 1 ≤ o.pages → mappers (first_process pages ∷ []) o.number ≡ 1 → IsMemoryObject (first_process pages ∷ []) o
+  unfolding IsMemoryObject IsPrivateObject
+  memory_object o least once = (least, inr (all_one (IsMappedAs false o.number) (first_process pages) (private_object o.number), once))
 
-descriptions_hold : (r : Regs) (out : Out) → DescriptionsValid (running_frame r out)
-unfolding DescriptionsValid OpenValid DescriptorsValid
-descriptions_hold r out = (
-  all_two (OpenValid (running_frame r out)) _ _
-      (is_owned r 0 (0, (0, 0), omega arith, refl, refl), tt, (refl, refl))
-      (is_owned r 1 (1, (1, 1), omega arith, refl, refl), tt, (refl, refl)),
-  all_one (DescriptorsValid flat_opens) (running_process r) (all_three (λ (d : ℕ × ℕ). IsOpen flat_opens d.1) _ _ _ first_open second_open second_open),
-)
+  objects_hold : ObjectsValid (first_frame pages)
+  unfolding ObjectsValid mappers maps_object
+  objects_hold =
+      all_two (λ (o : ObjectRec). (is_of_file [] o.number ≡ true) ⊎ IsMemoryObject (first_process pages ∷ []) o) _ _
+      (inr (memory_object (image_object pages) some refl)) (inr (memory_object stack_object (omega arith) refl))
 
-streams_hold : (r : Regs) (out : Out) → StreamsValid (running_frame r out)
-unfolding StreamsValid
-streams_hold r out = (λ _ _ lt. absurd (omega arith), λ _ _ lt. absurd (omega arith))
+  is_owned : (number : ℕ) → Any (λ (d : ℕ × ℕ). d.1 ≡ number) (first_process pages).fds → IsOwned (first_process pages ∷ []) number
+  unfolding IsOwned Owns
+  is_owned number at = (0, first_process pages, omega arith, refl, at)
 
-process_holds : (r : Regs) → RegsInRange r → ProcValid (running_process r ∷ []) (running_process r)
-unfolding ProcValid RunningValid BreakValid
-process_holds r range = (range.aligned, (refl, omega arith, omega arith), inl refl)
+  first_open : IsOpen first_opens 0
+  unfolding IsOpen
+  first_open = (0, record { number = 0; kind = Nothing; offset = 0; flags = 0 }, omega arith, refl, refl)
 
-frame_holds : (r : Regs) (out : Out) → RegsInRange r → AreBytes out.bytes → OutValid out → FrameValid (running_frame r out)
-frame_holds r out range bytes valid = record {
-  limits = limits_hold r out;
-  order = lists_rise r out;
-  numbers = numbers_fit r out range bytes;
-  next = next_holds r out;
-  mappings = all_one (MappingsValid flat_objects) (running_process r) (mappings_hold r);
-  objects = objects_hold r out;
-  files = λ _ _ lt. absurd (omega arith);
-  descriptions = descriptions_hold r out;
-  streams = streams_hold r out;
-  procs = all_one (ProcValid (running_process r ∷ [])) (running_process r) (process_holds r range);
-  out = valid;
-}
+  second_open : IsOpen first_opens 1
+  unfolding IsOpen
+  second_open = (1, record { number = 1; kind = Outside; offset = 0; flags = 0 }, omega arith, refl, refl)
 
-built_holds : (r : Regs) (out : Out) → OnlyBuilt (running_frame r out)
-unfolding IsAlone
-built_holds r out = record {
-  one = omega arith;
-  alone = all_one IsAlone (running_process r) (refl, all_two (λ (m : Mapping). m.shared ≡ false) _ _ refl refl);
-  files = refl;
-  pipes = refl;
-  pairs = refl;
-  opens = all_two (λ (o : Open). IsPlain o.kind) _ _ tt tt;
-}
+  descriptions_hold : DescriptionsValid (first_frame pages)
+  unfolding DescriptionsValid OpenValid DescriptorsValid
+  descriptions_hold = (
+    all_two (OpenValid (first_frame pages)) _ _
+        (is_owned 0 (0, (0, 0), omega arith, refl, refl), tt, (refl, refl))
+        (is_owned 1 (1, (1, 1), omega arith, refl, refl), tt, (refl, refl)),
+    all_one (DescriptorsValid first_opens) (first_process pages) (all_three (λ (d : ℕ × ℕ). IsOpen first_opens d.1) _ _ _ first_open second_open second_open),
+  )
 
--- a page of bytes
-pub record IsPage (page : List ℕ) : Type 0 where
-  pub size : length page ≡ 4096
-  pub bytes : AreBytes page
+  streams_hold : StreamsValid (first_frame pages)
+  unfolding StreamsValid
+  streams_hold = (λ _ _ lt. absurd (omega arith), λ _ _ lt. absurd (omega arith))
 
-running_valid : (r : Regs) (image stack : List ℕ) (out : Out) → RegsInRange r → IsPage image → IsPage stack → AreBytes out.bytes → OutValid out → GroupIsValid (running_group r image stack out)
-running_valid r image stack out range first second bytes valid = record {
-  frame = frame_holds r out range bytes valid;
-  memory = ((refl, first.size, first.bytes), ((refl, second.size, second.bytes), tt));
-  files = λ _ _ lt. absurd (omega arith);
-}
+  process_holds : ProcValid (first_process pages ∷ []) (first_process pages)
+  unfolding ProcValid RunningValid BreakValid
+  process_holds = (refl, (omega arith, omega arith, omega (arith, few)), inl refl)
 
--- a running group whose output is all marked can be a checkpoint's
-pub running_checkpointed : (r : Regs) (image stack : List ℕ) (out : Out) → RegsInRange r → IsPage image → IsPage stack → AreBytes out.bytes → OutValid out
-    → out.mark ≡ last_position out → IsCheckpointed (running_group r image stack out)
-running_checkpointed r image stack out range first second bytes valid marked =
-    record { valid = running_valid r image stack out range first second bytes valid; built = built_holds r out; all_marked = marked }
+  out_holds : OutValid (first_frame pages).out
+  unfolding OutValid
+  out_holds = (omega arith, omega arith, omega arith, omega arith, omega arith)
 
--- ---- the group that is left
+  frame_holds : FrameValid (first_frame pages)
+  frame_holds = record {
+    limits = limits_hold;
+    order = lists_rise;
+    numbers = numbers_fit;
+    next = next_holds;
+    mappings = all_one (MappingsValid (first_objects pages)) (first_process pages) mappings_hold;
+    objects = objects_hold;
+    files = λ _ _ lt. absurd (omega arith);
+    descriptions = descriptions_hold;
+    streams = streams_hold;
+    procs = all_one (ProcValid (first_process pages ∷ [])) (first_process pages) process_holds;
+    out = out_holds;
+  }
 
-abbrev ended_frame : Out → Frame
-ended_frame out = frame_with [] [] [] out
+  built_holds : OnlyBuilt (first_frame pages)
+  unfolding IsAlone
+  built_holds = record {
+    one = omega arith;
+    alone = all_one IsAlone (first_process pages) (refl, all_two (λ (m : Mapping). m.shared ≡ false) _ _ refl refl);
+    files = refl;
+    pipes = refl;
+    pairs = refl;
+    opens = all_two (λ (o : Open). IsPlain o.kind) _ _ tt tt;
+  }
 
-ended_limits : (out : Out) → WithinLimits (ended_frame out)
-unfolding MemoryFits memory_objects
-ended_limits out = record {
-  proc_count = omega arith;
-  procs = λ _ _ lt. absurd (omega arith);
-  memory = (omega arith, omega arith, λ _ _ lt. absurd (omega arith));
-  open_count = omega arith;
-  pipe_count = omega arith;
-  pipes = λ _ _ lt. absurd (omega arith);
-  pair_count = omega arith;
-  pairs = λ _ _ lt. absurd (omega arith);
-  file_count = omega arith;
-  files = λ _ _ lt. absurd (omega arith);
-}
+-- ---- the group
 
-ended_order : (out : Out) → ListsRise (ended_frame out)
-ended_order out = record {
-  procs = rise_none (λ (p : Proc). p.pid);
-  own = λ _ _ lt. absurd (omega arith);
-  objects = rise_none (λ (o : ObjectRec). o.number);
-  opens = rise_none (λ (o : Open). o.number);
-  pipes = rise_none (λ (p : Pipe). p.number);
-  pairs = rise_none (λ (p : Pair). p.number);
-  files = names_rise;
-}
+bytes_hold : (bytes : List ℕ) (n : ℕ) → AreBytes bytes → AreBytes (bytes ++ replicate n 0)
+unfolding AreBytes
+bytes_hold bytes n fit = All-append (λ b. b < 256) bytes (replicate n 0) fit (All-replicate (λ b. b < 256) n 0 (omega arith))
 
-ended_numbers : (out : Out) → AreBytes out.bytes → NumbersFit (ended_frame out)
-unfolding NextFits
-ended_numbers out bytes = record {
-  next = (omega arith, omega arith, omega arith, omega arith);
-  procs = λ _ _ lt. absurd (omega arith);
-  pipes = λ _ _ lt. absurd (omega arith);
-  pairs = λ _ _ lt. absurd (omega arith);
-  out = bytes;
-}
+none_hold : AreBytes []
+unfolding AreBytes
+none_hold = All-nil (λ b. b < 256)
 
-ended_next : (out : Out) → NextValid (ended_frame out)
-unfolding NextValid NextIsAbove
-ended_next out = ((λ _ _ lt. absurd (omega arith), λ _ _ lt. absurd (omega arith), λ _ _ lt. absurd (omega arith), λ _ _ lt. absurd (omega arith), λ _ _ lt. absurd (omega arith)), omega arith, omega arith)
+image_size : (image : List ℕ) → length (image ++ replicate (4096 * pages_for image - length image) 0) ≡ 4096 * pages_for image
+image_size image =
+    omega (arith, length-append image (replicate (4096 * pages_for image - length image) 0), length-replicate {A = ℕ} (4096 * pages_for image - length image) 0, within_pages image)
 
-ended_lists : (out : Out) → ObjectsValid (ended_frame out) × DescriptionsValid (ended_frame out) × StreamsValid (ended_frame out)
-unfolding ObjectsValid DescriptionsValid StreamsValid
-ended_lists out = (λ _ _ lt. absurd (omega arith), (λ _ _ lt. absurd (omega arith), λ _ _ lt. absurd (omega arith)), (λ _ _ lt. absurd (omega arith), λ _ _ lt. absurd (omega arith)))
-
-ended_holds : (out : Out) → AreBytes out.bytes → OutValid out → FrameValid (ended_frame out)
-ended_holds out bytes valid = record {
-  limits = ended_limits out;
-  order = ended_order out;
-  numbers = ended_numbers out bytes;
-  next = ended_next out;
-  mappings = λ _ _ lt. absurd (omega arith);
-  objects = (ended_lists out).0;
-  files = λ _ _ lt. absurd (omega arith);
-  descriptions = (ended_lists out).1;
-  streams = (ended_lists out).2;
-  procs = λ _ _ lt. absurd (omega arith);
-  out = valid;
-}
-
-ended_built : (out : Out) → OnlyBuilt (ended_frame out)
-ended_built out = record { one = omega arith; alone = λ _ _ lt. absurd (omega arith); files = refl; pipes = refl; pairs = refl; opens = λ _ _ lt. absurd (omega arith) }
-
--- what is left, with its output all marked, can be a checkpoint's
-pub ended_checkpointed : (out : Out) → AreBytes out.bytes → OutValid out → out.mark ≡ last_position out → IsCheckpointed (ended_group out)
-ended_checkpointed out bytes valid marked = record {
-  valid = record { frame = ended_holds out bytes valid; memory = tt; files = λ _ _ lt. absurd (omega arith) };
-  built = ended_built out;
-  all_marked = marked;
-}
+-- it can be a checkpoint's
+pub first_checkpointed : (image : List ℕ) → 1 ≤ length image → length image ≤ 16777216 → AreBytes image → IsCheckpointed (flat_group image)
+first_checkpointed image some few bytes =
+    let least : 1 ≤ pages_for image = omega (arith, some) in
+    let most : pages_for image ≤ 4096 = omega (arith, few) in
+    record {
+      valid = record {
+        frame = frame_holds (pages_for image) least most;
+        memory = ((refl, image_size image, bytes_hold image _ bytes), ((refl, length-replicate {A = ℕ} 4096 0, bytes_hold [] 4096 none_hold), tt));
+        files = λ _ _ lt. absurd (omega arith);
+      };
+      built = built_holds (pages_for image) least most;
+      all_marked = refl;
+    }

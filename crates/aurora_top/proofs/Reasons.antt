@@ -4,10 +4,11 @@ use Rattle.std.specs.Option.{ForSome}
 use Rattle.dev_traits.specs.Disk.{DiskView}
 use Rattle.dev_traits.specs.Outside.{FilesView}
 use Rattle.ckpt_chain.specs.Slot.{newest}
+use Rattle.solo_engine.specs.Origin.{HasSize}
 use Rattle.aurora_top.specs.declared.end.End.{End}
-use Rattle.aurora_top.specs.declared.end.End.TheVariants.{Done, Spent, Usage, NotBuilt, DiskFault, SinkFault, FilesFault, NoMemory}
+use Rattle.aurora_top.specs.declared.end.End.TheVariants.{Done, Stuck, Spent, Usage, NotBuilt, DiskFault, SinkFault, FilesFault, DiskFull, NoMemory}
 use Rattle.aurora_top.specs.Words.{is_run, manifest_of}
-use Rattle.aurora_top.specs.Refusals.{HasSize, Refused, RefusedByFiles}
+use Rattle.aurora_top.specs.Refusals.{Refused, RefusedByFiles}
 
 -- what the loading refuses, the command is refused for
 pub by_files : (words : List (List ℕ)) (disk disk' : DiskView) (files files' : FilesView) (count : ℕ) (end : End) → IsTrue (is_run words) → HasSize disk.blocks
@@ -20,3 +21,5 @@ by_files words disk disk' files files' count DiskFault run size unused why = abs
 by_files words disk disk' files files' count SinkFault run size unused why = absurd why
 by_files words disk disk' files files' count (Done epoch turns output) run size unused why = absurd why
 by_files words disk disk' files files' count (Spent epoch turns output) run size unused why = absurd why
+by_files words disk disk' files files' count (Stuck epoch turns output) run size unused why = absurd why
+by_files words disk disk' files files' count (DiskFull need free) run size unused why = absurd why

@@ -1,5 +1,5 @@
 -- The first group of a flat image.
-use Rattle.std.specs.Prelude.{ℕ, ◌+◌, ◌-◌, ◌*◌, ◌/◌, false, List, [], ◌∷◌, ◌++◌, length, replicate}
+use Rattle.std.specs.Prelude.{ℕ, ◌+◌, ◌-◌, ◌*◌, ◌/◌, false, List, [], ◌∷◌, ◌++◌, length, replicate, take, drop}
 use Rattle.group_defs.specs.declared.frame.Proc.{Proc}
 use Rattle.group_defs.specs.declared.frame.ProcState.TheVariants.{Running}
 use Rattle.group_defs.specs.declared.opens.OpenKind.TheVariants.{Nothing, Outside}
@@ -8,6 +8,12 @@ use Rattle.group_defs.specs.Group.{Group}
 -- the pages that an image's bytes take
 abbrev pub pages_for : List ℕ → ℕ
 pages_for image = (length image + 4095) / 4096
+
+-- the bytes of one of these pages; the last one is filled up with zeros
+abbrev pub image_page : List ℕ → ℕ → List ℕ
+image_page image page =
+    let bytes = take 4096 (drop (4096 * page) image) in
+    bytes ++ replicate (4096 - length bytes) 0
 
 -- One process runs. Its image lies from 0x10000 on in object 0, with all rights, and one page of zeros below 0x3ffffff000
 -- in object 1 is its stack. pc is at the image's first byte, x2 at the stack's top, and all else is 0; the break starts

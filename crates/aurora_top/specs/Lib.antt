@@ -1,13 +1,7 @@
 pub mod End
 pub mod Words
-pub mod Memory
 pub mod Refusals
 pub mod Boot
-pub mod Flat
-pub mod Placing
-pub mod Plans
 pub mod Opening
 pub mod Starting
-pub mod Safe
-pub mod Persisting
 pub mod Answers

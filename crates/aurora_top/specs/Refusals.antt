@@ -1,18 +1,15 @@
 -- Which commands are run, and why the others are refused.
-use Rattle.std.specs.Prelude.{◌≡◌, ◌≢◌, ◌↔◌, ℕ, ◌≤◌, Bool, false, IsTrue, List, [], ◌∷◌, ◌++◌, length, slice_index, Option, Some, None}
+use Rattle.std.specs.Prelude.{◌≡◌, ◌≢◌, ℕ, ◌≤◌, false, IsTrue, List, [], ◌∷◌, ◌++◌, length, Option, Some, None}
 use Rattle.std.specs.Option.{ForSome}
 use Rattle.std.specs.List.{AllByRecursion}
 use Rattle.ckpt_chain.specs.Slot.{newest}
 use Rattle.dev_traits.specs.Counts.{Rose}
-use Rattle.dev_traits.specs.Disk.{DiskView, LeftNow, OnlyReading}
+use Rattle.dev_traits.specs.Disk.{DiskView, OnlyReading}
 use Rattle.dev_traits.specs.Outside.{FilesView}
+use Rattle.solo_engine.specs.Origin.{HasSize, gates_of}
 use Rattle.aurora_top.specs.Words.{is_run, manifest_of}
 use Rattle.aurora_top.specs.declared.end.End.{End}
-use Rattle.aurora_top.specs.declared.end.End.TheVariants.{Done, Spent, Usage, NotBuilt, DiskFault, SinkFault, FilesFault, NoMemory}
-
--- the number of blocks that a disk may have
-abbrev pub HasSize : ℕ → Type 0
-HasSize blocks = (16 ≤ blocks) × (blocks ≤ 1048576)
+use Rattle.aurora_top.specs.declared.end.End.TheVariants.{Done, Stuck, Spent, Usage, NotBuilt, DiskFault, SinkFault, FilesFault, DiskFull, NoMemory}
 
 -- `aurora 1`, line feed, `flat `
 abbrev pub heading : List ℕ
@@ -24,14 +21,14 @@ pub record IsFlat (manifest name : List ℕ) : Type 0 where
   pub size : (1 ≤ length name) × (length name ≤ 64)
   pub printed : AllByRecursion (λ b. (33 ≤ b) × (b ≤ 126)) name
 
--- the manifest of this name is there, and the image that it names, with 1 to 4,096 bytes
+-- the manifest of this name is there, and the image that it names, with 1 to 16,777,216 bytes
 pub record NamesImage (held : List ℕ → Option (List ℕ)) (word image : List ℕ) : Type 0 where
   pub manifest : List ℕ
   pub name : List ℕ
   pub found : held word ≡ Some manifest
   pub flat : IsFlat manifest name
   pub there : held name ≡ Some image
-  pub size : (1 ≤ length image) × (length image ≤ 4096)
+  pub size : (1 ≤ length image) × (length image ≤ 16777216)
 
 -- The tests of a command find nothing: the disk has a size that it may have and no open slot, the manifest names an
 -- image, and the output is empty.
@@ -47,7 +44,7 @@ pub record Runs (words : List (List ℕ)) (disk : DiskView) (files : FilesView) 
   pub size : HasSize disk.blocks
   pub unused : ForSome disk.reading (λ r. newest r ≡ None)
   pub named : ForSome files.contents (λ held. NamesImage held (manifest_of words) image)
-  pub image_size : (1 ≤ length image) × (length image ≤ 4096)
+  pub image_size : (1 ≤ length image) × (length image ≤ 16777216)
   pub empty : count ≡ 0
 
 -- Why a command was refused before its run: the devices before and after.
@@ -63,20 +60,13 @@ Refused words disk disk' files files' count NoMemory =
     IsTrue (is_run words) × HasSize disk.blocks × ForSome disk.reading (λ r. newest r ≡ None)
 Refused words disk disk' files files' count SinkFault = ⊥
 Refused words disk disk' files files' count (Done epoch turns output) = ⊥
+Refused words disk disk' files files' count (Stuck epoch turns output) = ⊥
 Refused words disk disk' files files' count (Spent epoch turns output) = ⊥
+Refused words disk disk' files files' count (DiskFull need free) = ⊥
 
--- Nothing was written, and a stop since then leaves nothing that it couldn't leave before.
-pub record IsUnwritten (before after : DiskView) : Type 0 where
-  pub blocks : after.blocks ≡ before.blocks
-  pub reading : after.reading ≡ before.reading
-  pub writes : after.writes ≡ before.writes
-  pub later : before.faults ≤ after.faults
-  pub left : (image : List ℕ) → after.left before.moment image → LeftNow before image
-
--- the opening: no slot is open, and whether the gate byte of slot A reads 1
-abbrev pub IsOpened : Bool → DiskView → DiskView → Type 0
-IsOpened gate before after =
-    OnlyReading after × ForSome before.reading (λ r. (newest r ≡ None) × (IsTrue gate ↔ (slice_index r 0 ≡ 1)))
+-- the opening: no slot is open, and these are the gate bytes
+abbrev pub IsOpened : List ℕ → DiskView → DiskView → Type 0
+IsOpened gates before after = OnlyReading after × ForSome before.reading (λ r. (newest r ≡ None) × (gates ≡ gates_of r))
 
 -- why the opening refused
 abbrev pub RefusedByDisk : DiskView → DiskView → End → Type 0
@@ -87,7 +77,9 @@ RefusedByDisk before after SinkFault = ⊥
 RefusedByDisk before after FilesFault = ⊥
 RefusedByDisk before after NoMemory = ⊥
 RefusedByDisk before after (Done epoch turns output) = ⊥
+RefusedByDisk before after (Stuck epoch turns output) = ⊥
 RefusedByDisk before after (Spent epoch turns output) = ⊥
+RefusedByDisk before after (DiskFull need free) = ⊥
 
 -- why the loading refused
 abbrev pub RefusedByFiles : List ℕ → FilesView → FilesView → End → Type 0
@@ -98,7 +90,9 @@ RefusedByFiles word before after Usage = ⊥
 RefusedByFiles word before after DiskFault = ⊥
 RefusedByFiles word before after SinkFault = ⊥
 RefusedByFiles word before after (Done epoch turns output) = ⊥
+RefusedByFiles word before after (Stuck epoch turns output) = ⊥
 RefusedByFiles word before after (Spent epoch turns output) = ⊥
+RefusedByFiles word before after (DiskFull need free) = ⊥
 
 -- why no file was read
 abbrev pub NoFile : List ℕ → FilesView → FilesView → End → Type 0
@@ -109,16 +103,20 @@ NoFile name before after Usage = ⊥
 NoFile name before after DiskFault = ⊥
 NoFile name before after SinkFault = ⊥
 NoFile name before after (Done epoch turns output) = ⊥
+NoFile name before after (Stuck epoch turns output) = ⊥
 NoFile name before after (Spent epoch turns output) = ⊥
+NoFile name before after (DiskFull need free) = ⊥
 
 -- why no image was read
 abbrev pub NoImage : List ℕ → FilesView → FilesView → End → Type 0
 NoImage name before after NotBuilt =
-    ForSome before.contents (λ held. (image : List ℕ) → held name ≡ Some image → (1 ≤ length image) × (length image ≤ 4096) → ⊥)
+    ForSome before.contents (λ held. (image : List ℕ) → held name ≡ Some image → (1 ≤ length image) × (length image ≤ 16777216) → ⊥)
 NoImage name before after FilesFault = Rose before.faults after.faults
 NoImage name before after NoMemory = Unit {0}
 NoImage name before after Usage = ⊥
 NoImage name before after DiskFault = ⊥
 NoImage name before after SinkFault = ⊥
 NoImage name before after (Done epoch turns output) = ⊥
+NoImage name before after (Stuck epoch turns output) = ⊥
 NoImage name before after (Spent epoch turns output) = ⊥
+NoImage name before after (DiskFull need free) = ⊥

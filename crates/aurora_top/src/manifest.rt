@@ -11,6 +11,9 @@ use std::alloc::Global;
 /// How a manifest of one flat image begins.
 const HEADING: &[u8; 14] = b"aurora 1\nflat ";
 
+/// The most bytes of an image: 16 MiB.
+const MOST_BYTES: usize = 16_777_216;
+
 /// Whether each byte may stand in a name.
 fn is_printed(name: &[u8]) -> bool
     ensures { IsTrue result ↔ AllByRecursion (λ b. (33 ≤ b) × (b ≤ 126)) name.now }
@@ -58,7 +61,7 @@ fn read_file<F: Files>(files: &mut F, alloc: Global, name: &str) -> Result<Vec<u
 /// The image of this name.
 fn read_image<F: Files>(files: &mut F, alloc: Global, name: &str) -> Result<Vec<u8>, End>
     ensures ok { IfOk result (λ image. ForSome (F.view files.old).contents (λ held. held name.now ≡ Some image.items)) }
-    ensures size { IfOk result (λ image. (1 ≤ length image.items) × (length image.items ≤ 4096)) }
+    ensures size { IfOk result (λ image. (1 ≤ length image.items) × (length image.items ≤ 16777216)) }
     ensures err { IfErr result (λ e. NoImage name.now (F.view files.old) (F.view files.new) e) }
     ensures contents { (F.view files.new).contents ≡ (F.view files.old).contents }
     ensures later { (F.view files.old).faults ≤ (F.view files.new).faults }
@@ -67,7 +70,7 @@ fn read_image<F: Files>(files: &mut F, alloc: Global, name: &str) -> Result<Vec<
         Ok(image) => image,
         Err(end) => return Err(end),
     };
-    if image.is_empty() || image.len() > 4096 {
+    if image.is_empty() || image.len() > MOST_BYTES {
         return Err(End::NotBuilt);
     }
     Ok(image)
@@ -90,7 +93,7 @@ fn image_name(manifest: &[u8]) -> Option<&str>
 /// Reads the manifest, and the flat image that it names.
 pub fn load<F: Files>(alloc: Global, files: &mut F, manifest: &str) -> Result<Vec<u8>, End>
     ensures ok { IfOk result (λ image. ForSome (F.view files.old).contents (λ held. NamesImage held manifest.now image.items)) }
-    ensures size { IfOk result (λ image. (1 ≤ length image.items) × (length image.items ≤ 4096)) }
+    ensures size { IfOk result (λ image. (1 ≤ length image.items) × (length image.items ≤ 16777216)) }
     ensures err { IfErr result (λ e. RefusedByFiles manifest.now (F.view files.old) (F.view files.new) e) }
     ensures contents { (F.view files.new).contents ≡ (F.view files.old).contents }
     ensures later { (F.view files.old).faults ≤ (F.view files.new).faults }

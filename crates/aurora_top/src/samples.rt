@@ -15,7 +15,7 @@ pub const SIXTEEN: usize = 65_536;
 
 /// Writes three bytes that stand behind it, and exits with 7.
 pub const WRITE_HI: &[u32] = &[
-    0x0001_05b7,
+    0x0000_0597,
     0x0245_8593,
     0x0010_0513,
     0x0030_0613,

@@ -94,6 +94,31 @@ fn output_is_released(rt: HostRuntime) -> Result<(), Fail> {
     Ok(())
 }
 
+/// An image that jumps to its second page, and writes from there.
+fn two_pages(alloc: Global) -> Result<Vec<u8>, Fail> {
+    let mut bytes = image(alloc, &[0x0000_106f], b"")?;
+    bytes.resize(4096, 0)?;
+    bytes.extend_from_slice(&image(alloc, WRITE_HI, b"hi\n")?)?;
+    Ok(bytes)
+}
+
+#[test]
+fn an_image_of_two_pages_runs(rt: HostRuntime) -> Result<(), Fail> {
+    let alloc = rt.alloc();
+    let files = files(alloc, FLAT_P, two_pages(alloc)?)?;
+    let run = run(alloc, RUN, files, disk(alloc, SIXTEEN)?, sink(alloc, b"")?)?;
+    assert_eq!(rt; run.out.bytes(), b"hi\n".as_slice());
+    assert_eq!(rt;
+        end_of(run),
+        End::Done {
+            epoch: 1,
+            turns: 2,
+            output: 3
+        }
+    );
+    Ok(())
+}
+
 /// A command, and what it finds.
 struct Case {
     texts: &'static [&'static str],
@@ -162,7 +187,7 @@ const CASES: [Case; 11] = [
         ..GOOD
     },
     Case {
-        image: 4097,
+        image: 16_777_217,
         end: End::NotBuilt,
         ..GOOD
     },
@@ -238,5 +263,67 @@ fn turns_are_spent(rt: HostRuntime) -> Result<(), Fail> {
         output: 0,
     };
     assert_eq!(rt; end_of(run(alloc, RUN, files, disk, out)?), spent);
+    Ok(())
+}
+
+/// Jumps to itself, with ones behind that fill the image up to this size.
+fn full_of_ones(alloc: Global, size: usize) -> Result<Vec<u8>, Fail> {
+    let mut bytes = image(alloc, LOOP, b"")?;
+    bytes.resize(size, 1)?;
+    Ok(bytes)
+}
+
+#[test]
+fn a_checkpoint_that_needs_more_blocks_is_not_begun(rt: HostRuntime) -> Result<(), Fail> {
+    let alloc = rt.alloc();
+    let files = files(alloc, FLAT_P, full_of_ones(alloc, 14 * 4096)?)?;
+    let run = run(alloc, RUN, files, disk(alloc, SIXTEEN)?, sink(alloc, b"")?)?;
+    assert_eq!(rt; run.status, 12);
+    assert_eq!(rt; run.disk.bytes().first(), Some(&0));
+    assert_eq!(rt; run.disk.bytes().get(4096), Some(&0));
+    assert_eq!(rt; end_of(run), End::DiskFull { need: 15, free: 14 });
+    Ok(())
+}
+
+#[test]
+fn a_checkpoint_that_takes_all_blocks_is_made(rt: HostRuntime) -> Result<(), Fail> {
+    let alloc = rt.alloc();
+    let files = files(alloc, FLAT_P, full_of_ones(alloc, 13 * 4096)?)?;
+    let run = run(alloc, RUN, files, disk(alloc, SIXTEEN)?, sink(alloc, b"")?)?;
+    let spent = End::Spent {
+        epoch: 1,
+        turns: 8,
+        output: 0,
+    };
+    assert_eq!(rt; end_of(run), spent);
+    Ok(())
+}
+
+/// Writes its first 1,048,576 bytes again and again.
+const WRITE_MUCH: &[u32] = &[
+    0x0000_0597,
+    0x0010_0513,
+    0x0010_0637,
+    0x0400_0893,
+    0x0000_0073,
+    0xfedf_f06f,
+];
+
+#[test]
+fn output_past_its_room_takes_several_barriers(rt: HostRuntime) -> Result<(), Fail> {
+    let alloc = rt.alloc();
+    let mut bytes = image(alloc, WRITE_MUCH, b"")?;
+    bytes.resize(1_048_576, 0)?;
+    let files = files(alloc, FLAT_P, bytes)?;
+    let disk = MemDisk::of(alloc, vec![in alloc; 0u8; 2_457_600]?, 2000)?;
+    let out = MemSink::of(alloc, Vec::new(alloc), 5_000_000)?;
+    let run = run(alloc, RUN, files, disk, out)?;
+    assert_eq!(rt; run.acks.len(), 4);
+    let spent = End::Spent {
+        epoch: 4,
+        turns: 8,
+        output: 4_194_304,
+    };
+    assert_eq!(rt; end_of(run), spent);
     Ok(())
 }

@@ -1,11 +1,8 @@
-use Rattle.std.proofs.Common.{◌≡◌, ℕ, ◌+◌, ◌↔◌, ◌==◌, List, IsTrue, ap, ◌∙◌, arith}
+use Rattle.std.proofs.Common.{◌≡◌, ℕ, ◌+◌, List, ap, ◌∙◌}
 use Rattle.std.specs.Prelude.{slice_index, slice_range}
 use Rattle.ckpt_chain.specs.Slot.{open_body}
 use Rattle.aurora_top.proofs.Slots.{slot_at, gate_at}
 use Rattle.aurora_top.proofs.opening.read_one.Goals as goal
-
-gate_test : (a b : ℕ) → a ≡ b → (IsTrue (a == 1) ↔ (b ≡ 1))
-gate_test a b e = (λ t. grind (arith, e, t), λ s. grind (arith, e, s))
 
 pub returns-in-Ok-clause-slot : goal.returns-in-Ok-clause-slot
 returns-in-Ok-clause-slot g c = λ x told.
@@ -15,4 +12,4 @@ returns-in-Ok-clause-slot g c = λ x told.
 pub returns-in-Ok-clause-gate : goal.returns-in-Ok-clause-gate
 returns-in-Ok-clause-gate g c = λ x told.
     let read : c.read_at.new.into ≡ slice_range x c.args.place (c.args.place + 4096) = c.in-Ok.ensures.bytes x told in
-    gate_test (slice_index c.read_at.new.into 0) (slice_index x c.args.place) (ap (λ (l : List ℕ). slice_index l 0) read ∙ gate_at x c.args.place)
+    ap (λ (l : List ℕ). slice_index l 0) read ∙ gate_at x c.args.place

@@ -1,24 +1,30 @@
-use Rattle.std.proofs.Common.{inr}
-use Rattle.aurora_top.specs.Flat.{group_at}
-use Rattle.aurora_top.proofs.Answering.{ran_out, ran}
-use Rattle.aurora_top.proofs.ImageLaws.{between_later, persisted_later}
+use Rattle.std.proofs.Common.{List, inr, subst, sym}
+use Rattle.group_defs.specs.declared.run.AckMark.{AckMark}
+use Rattle.group_defs.specs.declared.run.Mark.{Mark}
+use Rattle.aurora_top.specs.Answers.{HasRun}
+use Rattle.aurora_top.specs.Opening.{IsBetween}
+use Rattle.aurora_top.proofs.Answering.{ran, run_later}
+use Rattle.aurora_top.proofs.OpeningLaws.{between_later}
 use Rattle.aurora_top.proofs.solo.run.Goals as goal
 
-pub returns-in-Ok-run_to_commit-clause-answer : goal.returns-in-Ok-run_to_commit-clause-answer
-returns-in-Ok-run_to_commit-clause-answer g c =
-    inr (ran c.args.words.now (g.D.Disk.view c.args.disk) (g.D.Disk.view c.prepare.new.disk) (g.F.Files.view c.args.files.now) (g.O.Sink.view c.args.out.now) c.prepare.new.opened_at c.in-Ok.start.group
-    c.in-Ok.ensures.ok c.in-Ok.ensures.opening c.prepare.ensures.same
-    (g.D.Disk.view c.persist.result.0) (g.O.Sink.view c.persist.new.out) c.in-Ok-run_to_commit.ready.turns (group_at c.in-Ok-run_to_commit.ready.group) c.run_to_commit.new.log.trace.items c.persist.new.log.trace.items c.persist.new.log.acks.items c.persist.result.1
-    c.in-Ok-run_to_commit.ensures.fetched c.persist.ensures)
+pub returns-in-Ok-clause-between : goal.returns-in-Ok-clause-between
+returns-in-Ok-clause-between g c =
+    let later = run_later _ c.run_solo.result.acks (g.D.Disk.view c.prepare.new.disk) (g.D.Disk.view c.run_solo.result.disk) (g.O.Sink.view c.args.out) (g.O.Sink.view c.run_solo.result.out) c.run_solo.result.answer c.run_solo.ensures in
+    subst (λ d. IsBetween c.prepare.new.opened_at (g.D.Disk.view c.args.disk) (g.D.Disk.view d)) (sym c.outcome_of.ensures.disk)
+    (between_later c.prepare.new.opened_at (g.D.Disk.view c.args.disk) (g.D.Disk.view c.prepare.new.disk) (g.D.Disk.view c.run_solo.result.disk) c.prepare.ensures.between later)
 
-pub returns-in-Err-run_to_commit-clause-answer : goal.returns-in-Err-run_to_commit-clause-answer
-returns-in-Err-run_to_commit-clause-answer g c =
-    inr (ran_out c.args.words.now (g.D.Disk.view c.args.disk) (g.D.Disk.view c.prepare.new.disk) (g.F.Files.view c.args.files.now) (g.O.Sink.view c.args.out.now) c.prepare.new.opened_at c.in-Ok.start.group
-    c.in-Ok.ensures.ok c.in-Ok.ensures.opening c.prepare.ensures.same
-    c.run_to_commit.new.log.trace.items c.run_to_commit.new.log.acks.items c.run_to_commit.ensures.unacked c.in-Err-run_to_commit.ensures.err)
-
-pub returns-in-Ok-run_to_commit-clause-between : goal.returns-in-Ok-run_to_commit-clause-between
-returns-in-Ok-run_to_commit-clause-between g c =
-    between_later c.prepare.new.opened_at (g.D.Disk.view c.args.disk) (g.D.Disk.view c.prepare.new.disk) (g.D.Disk.view c.persist.result.0) c.prepare.ensures.between
-    (persisted_later (group_at c.in-Ok-run_to_commit.ready.group) c.in-Ok-run_to_commit.ready.turns (g.D.Disk.view c.prepare.new.disk) (g.D.Disk.view c.persist.result.0) (g.O.Sink.view c.args.out.now) (g.O.Sink.view c.persist.new.out)
-    c.run_to_commit.new.log.trace.items c.persist.new.log.trace.items c.persist.new.log.acks.items c.persist.result.1 c.persist.ensures)
+pub returns-in-Ok-clause-answer : goal.returns-in-Ok-clause-answer
+returns-in-Ok-clause-answer g c =
+    let words = c.args.words.now in
+    let before = g.D.Disk.view c.args.disk in
+    let files = g.F.Files.view c.args.files.now in
+    let out = g.O.Sink.view c.args.out in
+    let run = c.run_solo.result in
+    let end = c.outcome_of.result.end in
+    let o = c.prepare.new.opened_at in
+    let made = ran words before (g.D.Disk.view c.prepare.new.disk) (g.D.Disk.view run.disk) files out (g.O.Sink.view run.out) o c.in-Ok.start.origin run.trace run.acks run.answer end
+    c.in-Ok.ensures.ok c.in-Ok.ensures.opening c.prepare.ensures.same c.run_solo.ensures c.outcome_of.ensures.end in
+    let with_trace = subst (λ (l : List Mark). HasRun words before (g.D.Disk.view run.disk) files out (g.O.Sink.view run.out) o l run.acks end) (sym c.outcome_of.ensures.trace) made in
+    let with_acks = subst (λ (l : List AckMark). HasRun words before (g.D.Disk.view run.disk) files out (g.O.Sink.view run.out) o c.outcome_of.result.trace l end) (sym c.outcome_of.ensures.acks) with_trace in
+    let with_disk = subst (λ d. HasRun words before (g.D.Disk.view d) files out (g.O.Sink.view run.out) o c.outcome_of.result.trace c.outcome_of.result.acks end) (sym c.outcome_of.ensures.disk) with_acks in
+    inr (subst (λ s. HasRun words before (g.D.Disk.view c.outcome_of.result.disk) files out (g.O.Sink.view s) o c.outcome_of.result.trace c.outcome_of.result.acks end) (sym c.outcome_of.ensures.out) with_disk)

@@ -1,6 +1,7 @@
 use Rattle.std.proofs.Common.{IsTrue, ◌∙◌, sym, subst, List, ℕ, rules}
 use Rattle.aurora_top.specs.Words.{is_run}
-use Rattle.aurora_top.specs.Refusals.{HasSize, NamesImage, RefusedByFiles}
+use Rattle.solo_engine.specs.Origin.{HasSize}
+use Rattle.aurora_top.specs.Refusals.{NamesImage, RefusedByFiles}
 use Rattle.aurora_top.proofs.Reasons.{by_files}
 use Rattle.aurora_top.proofs.starting.prepare.Goals as goal
 
