@@ -50,16 +50,16 @@ EndsFor run acks disk disk' out out' Usage = ⊥
 EndsFor run acks disk disk' out out' NotBuilt = ⊥
 EndsFor run acks disk disk' out out' FilesFault = ⊥
 
--- the limits of each run
-abbrev pub limits : Limits
-limits = record { turns = 8; quantum = 1000; every = 8; workers = 0; flushers = 1 }
+-- the limits that each command has so far
+abbrev pub usual_limits : Limits
+usual_limits = record { turns = 8; quantum = 1000; every = 8; workers = 0; flushers = 1 }
 
--- a run on a new disk of the image's process, with this trace
-abbrev pub flat_run : List ℕ → List Mark → Run
-flat_run image trace = run_of limits (flat_group image) 0 trace
+-- a run on a new disk of the image's process, with these limits and this trace
+abbrev pub flat_run : Limits → List ℕ → List Mark → Run
+flat_run limits image trace = run_of limits (flat_group image) 0 trace
 
--- The command was run: the run of this image, whose trace is legal.
-pub record WasRun (words : List (List ℕ)) (disk disk' : DiskView) (files : FilesView) (out out' : SinkView) (opened_at : ℕ) (trace : List Mark) (acks : List AckMark) (end : End) : Type 0 where
+-- The command was run: the run of this image with these limits, whose trace is legal.
+pub record WasRun (limits : Limits) (words : List (List ℕ)) (disk disk' : DiskView) (files : FilesView) (out out' : SinkView) (opened_at : ℕ) (trace : List Mark) (acks : List AckMark) (end : End) : Type 0 where
   pub image : List ℕ
   pub runs : Runs words disk files image out.count
   pub legal : Legal (flat_group image) 0 limits trace
@@ -67,22 +67,22 @@ pub record WasRun (words : List (List ℕ)) (disk disk' : DiskView) (files : Fil
   pub order : IsSoloPrefix (flat_group image) 0 limits trace
   pub blocks : disk'.blocks ≡ disk.blocks
   -- the disk that comes back, where the disk tells its bytes
-  pub safe : ForSome disk.reading (λ r. Safe (flat_run image trace) opened_at acks disk disk')
+  pub safe : ForSome disk.reading (λ r. Safe (flat_run limits image trace) opened_at acks disk disk')
   -- After any answer but a disk fault a stop leaves what was acknowledged last.
-  pub current : (end ≡ DiskFault → ⊥) → ForSome disk.reading (λ r. (left : List ℕ) → LeftNow disk' left → KeepsLast (flat_run image trace) acks left)
-  pub acked : AreAcks (flat_run image trace) opened_at acks disk disk'
+  pub current : (end ≡ DiskFault → ⊥) → ForSome disk.reading (λ r. (left : List ℕ) → LeftNow disk' left → KeepsLast (flat_run limits image trace) acks left)
+  pub acked : AreAcks (flat_run limits image trace) opened_at acks disk disk'
   -- the output
-  pub released : Released (flat_run image trace) acks out out'
+  pub released : Released (flat_run limits image trace) acks out out'
   -- nothing was written before the first fetch
   pub unfetched : list_any is_fetch trace ≡ false → IsUnwritten disk disk'
-  pub ends : EndsFor (flat_run image trace) acks disk disk' out out' end
+  pub ends : EndsFor (flat_run limits image trace) acks disk disk' out out' end
 
 -- a run that has its moment of opening
-abbrev pub HasRun : List (List ℕ) → DiskView → DiskView → FilesView → SinkView → SinkView → Option ℕ → List Mark → List AckMark → End → Type 0
-HasRun words disk disk' files out out' None trace acks end = ⊥
-HasRun words disk disk' files out out' (Some at) trace acks end = WasRun words disk disk' files out out' at trace acks end
+abbrev pub HasRun : Limits → List (List ℕ) → DiskView → DiskView → FilesView → SinkView → SinkView → Option ℕ → List Mark → List AckMark → End → Type 0
+HasRun limits words disk disk' files out out' None trace acks end = ⊥
+HasRun limits words disk disk' files out out' (Some at) trace acks end = WasRun limits words disk disk' files out out' at trace acks end
 
 -- one of the two
-abbrev pub HasAnswered : List (List ℕ) → DiskView → DiskView → FilesView → FilesView → SinkView → SinkView → Option ℕ → List Mark → List AckMark → End → Type 0
-HasAnswered words disk disk' files files' out out' opened_at trace acks end =
-    WasRefused words disk disk' files files' out out' trace acks end ⊎ HasRun words disk disk' files out out' opened_at trace acks end
+abbrev pub HasAnswered : Limits → List (List ℕ) → DiskView → DiskView → FilesView → FilesView → SinkView → SinkView → Option ℕ → List Mark → List AckMark → End → Type 0
+HasAnswered limits words disk disk' files files' out out' opened_at trace acks end =
+    WasRefused words disk disk' files files' out out' trace acks end ⊎ HasRun limits words disk disk' files out out' opened_at trace acks end

@@ -18,6 +18,8 @@ pub use solo::aurora_solo;
 pub use words::{Mode, mode_of};
 
 #[cfg(test)]
+mod barriers;
+#[cfg(test)]
 mod samples;
 #[cfg(test)]
 mod stops;

@@ -1,8 +1,9 @@
 //! A run on one thread.
 ghost use Rattle.std.specs.Prelude.{◌≡◌, ◌≤◌, ◌⊎◌, ◌↔◌, None, false};
 ghost use Rattle.group_defs.specs.Trace.{turns_in};
+ghost use Rattle.solo_engine.specs.Origin.{LimitsFit};
 ghost use Rattle.solo_engine.specs.Safe.{last_epoch};
-ghost use Rattle.aurora_top.specs.Answers.{WasRefused, WasRun, HasAnswered};
+ghost use Rattle.aurora_top.specs.Answers.{HasAnswered, WasRefused, WasRun, usual_limits};
 ghost use Rattle.aurora_top.specs.End.{end_for as end_named, status_of as number_of};
 ghost use Rattle.aurora_top.specs.Opening.{IsBetween};
 ghost use Rattle.aurora_top.specs.Words.{is_run};
@@ -25,12 +26,12 @@ const LIMITS: Limits = Limits {
 };
 
 /// What a call came to: why it ended, what it logged, and the devices that it had.
-struct Outcome<D, O> {
-    end: End,
-    trace: Seq<Mark>,
-    acks: Seq<AckMark>,
-    disk: D,
-    out: O,
+pub(crate) struct Outcome<D, O> {
+    pub(crate) end: End,
+    pub(crate) trace: Seq<Mark>,
+    pub(crate) acks: Seq<AckMark>,
+    pub(crate) disk: D,
+    pub(crate) out: O,
 }
 
 fn count_turns(trace: &[Mark]) -> u64
@@ -80,22 +81,24 @@ fn outcome_of<D, O: Sink>(run: Run<D, O>) -> Outcome<D, O>
     }
 }
 
-/// All of a call.
-fn run<F: Files, D: Disk, O: Sink>(
+/// All of a call, with these limits.
+pub(crate) fn run<F: Files, D: Disk, O: Sink>(
     alloc: Global,
     words: &[Word],
     files: &mut F,
     disk: D,
     out: O,
     opened_at: &mut Option<u64>,
+    limits: Limits,
 ) -> Outcome<D, O>
     requires untold { opened_at.old ≡ None }
+    requires limits { LimitsFit limits }
     ensures between { IsBetween opened_at.new (D.view disk) (D.view result.disk) }
-    ensures answer { HasAnswered words.now (D.view disk) (D.view result.disk) (F.view files.old) (F.view files.new) (O.view out) (O.view result.out) opened_at.new result.trace result.acks result.end }
+    ensures answer { HasAnswered limits words.now (D.view disk) (D.view result.disk) (F.view files.old) (F.view files.new) (O.view out) (O.view result.out) opened_at.new result.trace result.acks result.end }
 {
     let mut disk = disk;
     match prepare(alloc, words, files, &mut disk, &out, opened_at) {
-        Ok(start) => outcome_of(run_solo(alloc, start.origin, LIMITS, disk, out)),
+        Ok(start) => outcome_of(run_solo(alloc, start.origin, limits, disk, out)),
         Err(end) => Outcome {
             end,
             trace: Seq::new(alloc),
@@ -122,7 +125,7 @@ pub fn aurora_solo<F: Files, D: Disk, O: Sink, S: Sink>(
     ensures usage { (result.end ≡ End.Usage) ↔ (is_run words.now ≡ false) }
     // Either the command was refused, and nothing was logged, written or put; or it was run.
     ensures answer { WasRefused words.now (D.view disk) (D.view result.disk) (F.view files) (F.view result.files) (O.view out) (O.view result.out) result.trace result.acks result.end
-        ⊎ WasRun words.now (D.view disk) (D.view result.disk) (F.view files) (O.view out) (O.view result.out) result.opened_at result.trace result.acks result.end }
+        ⊎ WasRun usual_limits words.now (D.view disk) (D.view result.disk) (F.view files) (O.view out) (O.view result.out) result.opened_at result.trace result.acks result.end }
     // The moment of the opening, for a refused command too, lies between the call's and the answer's.
     ensures opened { ((D.view disk).moment ≤ result.opened_at) × (result.opened_at ≤ (D.view result.disk).moment) }
     ensures origin { result.origin_epoch ≡ 0 }
@@ -136,7 +139,7 @@ pub fn aurora_solo<F: Files, D: Disk, O: Sink, S: Sink>(
         acks,
         disk,
         out,
-    } = run(alloc, words, &mut files, disk, out, &mut opened_at);
+    } = run(alloc, words, &mut files, disk, out, &mut opened_at, LIMITS);
     let opened_at = opened_at.unwrap_or(disk.moment());
     Ending {
         status: status_of(&end),

@@ -22,9 +22,9 @@ returns-in-Ok-clause-answer g c =
     let run = c.run_solo.result in
     let end = c.outcome_of.result.end in
     let o = c.prepare.new.opened_at in
-    let made = ran words before (g.D.Disk.view c.prepare.new.disk) (g.D.Disk.view run.disk) files out (g.O.Sink.view run.out) o c.in-Ok.start.origin run.trace run.acks run.answer end
+    let made = ran c.args.limits words before (g.D.Disk.view c.prepare.new.disk) (g.D.Disk.view run.disk) files out (g.O.Sink.view run.out) o c.in-Ok.start.origin run.trace run.acks run.answer end
     c.in-Ok.ensures.ok c.in-Ok.ensures.opening c.prepare.ensures.same c.run_solo.ensures c.outcome_of.ensures.end in
-    let with_trace = subst (λ (l : List Mark). HasRun words before (g.D.Disk.view run.disk) files out (g.O.Sink.view run.out) o l run.acks end) (sym c.outcome_of.ensures.trace) made in
-    let with_acks = subst (λ (l : List AckMark). HasRun words before (g.D.Disk.view run.disk) files out (g.O.Sink.view run.out) o c.outcome_of.result.trace l end) (sym c.outcome_of.ensures.acks) with_trace in
-    let with_disk = subst (λ d. HasRun words before (g.D.Disk.view d) files out (g.O.Sink.view run.out) o c.outcome_of.result.trace c.outcome_of.result.acks end) (sym c.outcome_of.ensures.disk) with_acks in
-    inr (subst (λ s. HasRun words before (g.D.Disk.view c.outcome_of.result.disk) files out (g.O.Sink.view s) o c.outcome_of.result.trace c.outcome_of.result.acks end) (sym c.outcome_of.ensures.out) with_disk)
+    let with_trace = subst (λ (l : List Mark). HasRun c.args.limits words before (g.D.Disk.view run.disk) files out (g.O.Sink.view run.out) o l run.acks end) (sym c.outcome_of.ensures.trace) made in
+    let with_acks = subst (λ (l : List AckMark). HasRun c.args.limits words before (g.D.Disk.view run.disk) files out (g.O.Sink.view run.out) o c.outcome_of.result.trace l end) (sym c.outcome_of.ensures.acks) with_trace in
+    let with_disk = subst (λ d. HasRun c.args.limits words before (g.D.Disk.view d) files out (g.O.Sink.view run.out) o c.outcome_of.result.trace c.outcome_of.result.acks end) (sym c.outcome_of.ensures.disk) with_acks in
+    inr (subst (λ s. HasRun c.args.limits words before (g.D.Disk.view c.outcome_of.result.disk) files out (g.O.Sink.view s) o c.outcome_of.result.trace c.outcome_of.result.acks end) (sym c.outcome_of.ensures.out) with_disk)
