@@ -1,3 +1,4 @@
+pub mod Saying
 pub mod Reasons
 pub mod Slots
 pub mod ImagePages

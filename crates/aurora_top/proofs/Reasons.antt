@@ -6,7 +6,7 @@ use Rattle.dev_traits.specs.Outside.{FilesView}
 use Rattle.ckpt_chain.specs.Slot.{newest}
 use Rattle.solo_engine.specs.Origin.{HasSize}
 use Rattle.aurora_top.specs.declared.end.End.{End}
-use Rattle.aurora_top.specs.declared.end.End.TheVariants.{Done, Stuck, Spent, Usage, NotBuilt, DiskFault, SinkFault, FilesFault, DiskFull, NoMemory}
+use Rattle.aurora_top.specs.declared.end.End.TheVariants.{Done, Stuck, Spent, Usage, NotBuilt, NoCheckpoint, Occupied, Damaged, DiskFault, SinkFault, FilesFault, DiskFull, NoMemory, DiskShape, SinkStrange, Worn}
 use Rattle.aurora_top.specs.Words.{is_run, manifest_of}
 use Rattle.aurora_top.specs.Refusals.{Refused, RefusedByFiles}
 
@@ -23,3 +23,9 @@ by_files words disk disk' files files' count (Done epoch turns output) run size 
 by_files words disk disk' files files' count (Spent epoch turns output) run size unused why = absurd why
 by_files words disk disk' files files' count (Stuck epoch turns output) run size unused why = absurd why
 by_files words disk disk' files files' count (DiskFull need free) run size unused why = absurd why
+by_files words disk disk' files files' count NoCheckpoint run size unused why = absurd why
+by_files words disk disk' files files' count (Occupied epoch) run size unused why = absurd why
+by_files words disk disk' files files' count (Damaged epoch) run size unused why = absurd why
+by_files words disk disk' files files' count (DiskShape blocks) run size unused why = absurd why
+by_files words disk disk' files files' count (SinkStrange strange from last) run size unused why = absurd why
+by_files words disk disk' files files' count (Worn epoch) run size unused why = absurd why

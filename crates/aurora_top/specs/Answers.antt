@@ -18,7 +18,7 @@ use Rattle.solo_engine.specs.Safe.{AreAcks, IsUnwritten, IsWhole, KeepsLast, Rel
 use Rattle.aurora_top.specs.Boot.{flat_group}
 use Rattle.aurora_top.specs.Refusals.{Refused, Runs}
 use Rattle.aurora_top.specs.declared.end.End.{End}
-use Rattle.aurora_top.specs.declared.end.End.TheVariants.{Done, Stuck, Spent, Usage, NotBuilt, DiskFault, SinkFault, FilesFault, DiskFull, NoMemory}
+use Rattle.aurora_top.specs.declared.end.End.TheVariants.{Done, Stuck, Spent, Usage, NotBuilt, NoCheckpoint, Occupied, Damaged, DiskFault, SinkFault, FilesFault, DiskFull, NoMemory, DiskShape, SinkStrange, Worn}
 
 -- The command was refused before its run: nothing was logged, written or put.
 pub record WasRefused (words : List (List ℕ)) (disk disk' : DiskView) (files files' : FilesView) (out out' : SinkView) (trace : List Mark) (acks : List AckMark) (end : End) : Type 0 where
@@ -49,6 +49,12 @@ EndsFor run acks disk disk' out out' NoMemory = ⊤
 EndsFor run acks disk disk' out out' Usage = ⊥
 EndsFor run acks disk disk' out out' NotBuilt = ⊥
 EndsFor run acks disk disk' out out' FilesFault = ⊥
+EndsFor run acks disk disk' out out' NoCheckpoint = ⊥
+EndsFor run acks disk disk' out out' (Occupied epoch) = ⊥
+EndsFor run acks disk disk' out out' (Damaged epoch) = ⊥
+EndsFor run acks disk disk' out out' (DiskShape blocks) = ⊥
+EndsFor run acks disk disk' out out' (SinkStrange count from last) = ⊥
+EndsFor run acks disk disk' out out' (Worn epoch) = ⊥
 
 -- the limits that each command has so far
 abbrev pub usual_limits : Limits

@@ -1,4 +1,5 @@
 pub mod End
+pub mod Say
 pub mod Words
 pub mod Refusals
 pub mod Boot

@@ -9,7 +9,7 @@ use Rattle.dev_traits.specs.Outside.{FilesView}
 use Rattle.solo_engine.specs.Origin.{HasSize, gates_of}
 use Rattle.aurora_top.specs.Words.{is_run, manifest_of}
 use Rattle.aurora_top.specs.declared.end.End.{End}
-use Rattle.aurora_top.specs.declared.end.End.TheVariants.{Done, Stuck, Spent, Usage, NotBuilt, DiskFault, SinkFault, FilesFault, DiskFull, NoMemory}
+use Rattle.aurora_top.specs.declared.end.End.TheVariants.{Done, Stuck, Spent, Usage, NotBuilt, NoCheckpoint, Occupied, Damaged, DiskFault, SinkFault, FilesFault, DiskFull, NoMemory, DiskShape, SinkStrange, Worn}
 
 -- `aurora 1`, line feed, `flat `
 abbrev pub heading : List ℕ
@@ -63,6 +63,12 @@ Refused words disk disk' files files' count (Done epoch turns output) = ⊥
 Refused words disk disk' files files' count (Stuck epoch turns output) = ⊥
 Refused words disk disk' files files' count (Spent epoch turns output) = ⊥
 Refused words disk disk' files files' count (DiskFull need free) = ⊥
+Refused words disk disk' files files' count NoCheckpoint = ⊥
+Refused words disk disk' files files' count (Occupied epoch) = ⊥
+Refused words disk disk' files files' count (Damaged epoch) = ⊥
+Refused words disk disk' files files' count (DiskShape blocks) = ⊥
+Refused words disk disk' files files' count (SinkStrange strange from last) = ⊥
+Refused words disk disk' files files' count (Worn epoch) = ⊥
 
 -- the opening: no slot is open, and these are the gate bytes
 abbrev pub IsOpened : List ℕ → DiskView → DiskView → Type 0
@@ -80,6 +86,12 @@ RefusedByDisk before after (Done epoch turns output) = ⊥
 RefusedByDisk before after (Stuck epoch turns output) = ⊥
 RefusedByDisk before after (Spent epoch turns output) = ⊥
 RefusedByDisk before after (DiskFull need free) = ⊥
+RefusedByDisk before after NoCheckpoint = ⊥
+RefusedByDisk before after (Occupied epoch) = ⊥
+RefusedByDisk before after (Damaged epoch) = ⊥
+RefusedByDisk before after (DiskShape blocks) = ⊥
+RefusedByDisk before after (SinkStrange strange from last) = ⊥
+RefusedByDisk before after (Worn epoch) = ⊥
 
 -- why the loading refused
 abbrev pub RefusedByFiles : List ℕ → FilesView → FilesView → End → Type 0
@@ -93,6 +105,12 @@ RefusedByFiles word before after (Done epoch turns output) = ⊥
 RefusedByFiles word before after (Stuck epoch turns output) = ⊥
 RefusedByFiles word before after (Spent epoch turns output) = ⊥
 RefusedByFiles word before after (DiskFull need free) = ⊥
+RefusedByFiles word before after NoCheckpoint = ⊥
+RefusedByFiles word before after (Occupied epoch) = ⊥
+RefusedByFiles word before after (Damaged epoch) = ⊥
+RefusedByFiles word before after (DiskShape blocks) = ⊥
+RefusedByFiles word before after (SinkStrange strange from last) = ⊥
+RefusedByFiles word before after (Worn epoch) = ⊥
 
 -- why no file was read
 abbrev pub NoFile : List ℕ → FilesView → FilesView → End → Type 0
@@ -106,6 +124,12 @@ NoFile name before after (Done epoch turns output) = ⊥
 NoFile name before after (Stuck epoch turns output) = ⊥
 NoFile name before after (Spent epoch turns output) = ⊥
 NoFile name before after (DiskFull need free) = ⊥
+NoFile name before after NoCheckpoint = ⊥
+NoFile name before after (Occupied epoch) = ⊥
+NoFile name before after (Damaged epoch) = ⊥
+NoFile name before after (DiskShape blocks) = ⊥
+NoFile name before after (SinkStrange strange from last) = ⊥
+NoFile name before after (Worn epoch) = ⊥
 
 -- why no image was read
 abbrev pub NoImage : List ℕ → FilesView → FilesView → End → Type 0
@@ -120,3 +144,9 @@ NoImage name before after (Done epoch turns output) = ⊥
 NoImage name before after (Stuck epoch turns output) = ⊥
 NoImage name before after (Spent epoch turns output) = ⊥
 NoImage name before after (DiskFull need free) = ⊥
+NoImage name before after NoCheckpoint = ⊥
+NoImage name before after (Occupied epoch) = ⊥
+NoImage name before after (Damaged epoch) = ⊥
+NoImage name before after (DiskShape blocks) = ⊥
+NoImage name before after (SinkStrange strange from last) = ⊥
+NoImage name before after (Worn epoch) = ⊥

@@ -6,8 +6,8 @@ use group_defs::{AckMark, Mark};
 use lists::Seq;
 use solo_engine::RunAnswer;
 
-/// Why a call ended. `epoch` is the last acknowledged one, `turns` the turns of this run, `output` the last
-/// position of the output.
+/// Why a call ended. `epoch` is the last acknowledged one at Done, Stuck and Spent, and that of the newest open slot at
+/// Occupied, Damaged and Worn; `turns` are the turns of this run, `output` is the last position of the output.
 #[derive(Clone, Copy, Debug, Drop, PartialEq, Eq)]
 pub enum End {
     /// No process is running, and all is on the disk and released.
@@ -20,12 +20,24 @@ pub enum End {
     Usage,
     /// The words ask for what isn't built yet.
     NotBuilt,
+    /// The disk has no open slot to restore from.
+    NoCheckpoint,
+    /// A run wants a disk without an open slot.
+    Occupied { epoch: u64 },
+    /// A slot is open, and the disk holds no group.
+    Damaged { epoch: u64 },
     DiskFault,
     SinkFault,
     FilesFault,
     /// The last barrier's checkpoint needs more blocks than are free. What was acknowledged before stands.
     DiskFull { need: u64, free: u64 },
     NoMemory,
+    /// A disk has 16 to 1,048,576 blocks of 4,096 bytes.
+    DiskShape { blocks: u64 },
+    /// The output holds `count` bytes: fewer than `from`, or more than `last`. Both are 0 for a run.
+    SinkStrange { count: u64, from: u64, last: u64 },
+    /// The held epoch, the last position of the output, or a number that comes next is above 2^62.
+    Worn { epoch: u64 },
 }
 
 /// What a call hands back.
@@ -54,11 +66,17 @@ pub fn status_of(end: &End) -> u8
         End::Stuck { .. } => 1,
         End::Spent { .. } => 2,
         End::Usage => 3,
+        End::NoCheckpoint => 6,
+        End::Occupied { .. } => 7,
+        End::Damaged { .. } => 8,
         End::DiskFault => 9,
         End::SinkFault => 10,
         End::FilesFault => 11,
         End::DiskFull { .. } => 12,
         End::NoMemory => 13,
+        End::DiskShape { .. } => 14,
+        End::SinkStrange { .. } => 15,
+        End::Worn { .. } => 17,
         End::NotBuilt => 18,
     }
 }

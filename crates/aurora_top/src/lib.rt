@@ -9,11 +9,13 @@ mod boot;
 mod end;
 mod manifest;
 mod opening;
+mod say;
 mod solo;
 mod starting;
 mod words;
 
 pub use end::{End, Ending, status_of};
+pub use say::say_line;
 pub use solo::aurora_solo;
 pub use words::{Mode, mode_of};
 
@@ -21,6 +23,8 @@ pub use words::{Mode, mode_of};
 mod barriers;
 #[cfg(test)]
 mod samples;
+#[cfg(test)]
+mod say_tests;
 #[cfg(test)]
 mod stops;
 #[cfg(test)]

@@ -1,0 +1,21 @@
+use Rattle.std.proofs.Common.{◌++◌, codes, decimal}
+use Rattle.std.proofs.lemmas.Result.{on_err_weaker, on_ok_weaker}
+use Rattle.aurora_top.proofs.Saying.{cut_early, cut_last, got_last, on_err}
+use Rattle.aurora_top.proofs.say.put_full.Goals as goal
+
+pub returns-in_err-put_field-clause-err : goal.returns-in_err-put_field-clause-err
+returns-in_err-put_field-clause-err g c =
+    on_err c.from_residual.result _
+    (cut_early (codes "disk full need " ++ decimal c.args.need) (codes " free ") (decimal c.args.free) (codes "\n") (g.S.Sink.view c.args.say.now) (g.S.Sink.view c.put_field.new.say) (g.S.Sink.view c.put_field.new.say) c.in_err-put_field.ensures.err)
+
+pub returns-clause-ok : goal.returns-clause-ok
+returns-clause-ok g c =
+    on_ok_weaker c.put_last.result
+    (λ got. got_last (codes "disk full need " ++ decimal c.args.need) (codes " free ") (decimal c.args.free) (codes "\n") (g.S.Sink.view c.args.say.now) (g.S.Sink.view c.put_field.new.say) (g.S.Sink.view c.put_last.new.say) c.in_ok-put_field.ensures.ok got)
+    c.put_last.ensures.ok
+
+pub returns-clause-err : goal.returns-clause-err
+returns-clause-err g c =
+    on_err_weaker c.put_last.result
+    (λ cut. cut_last (codes "disk full need " ++ decimal c.args.need) (codes " free ") (decimal c.args.free) (codes "\n") (g.S.Sink.view c.args.say.now) (g.S.Sink.view c.put_field.new.say) (g.S.Sink.view c.put_last.new.say) c.in_ok-put_field.ensures.ok cut)
+    c.put_last.ensures.err
