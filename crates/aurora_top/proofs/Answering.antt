@@ -1,8 +1,7 @@
 -- A command's run, from the run that began after its opening.
-use Rattle.std.proofs.Common.{◌≡◌, ◌⊎◌, inl, inr, ⊎_elim, ℕ, ◌≤◌, false, List, [], ◌∷◌, Option, Some, None, refl, sym, ap, ◌∙◌, subst, arith}
+use Rattle.std.proofs.Common.{◌≡◌, inl, inr, ⊎_elim, ℕ, ◌≤◌, false, List, [], ◌∷◌, Option, Some, None, refl, sym, ap, ◌∙◌, subst, arith}
 use Rattle.std.specs.List.{list_any}
-use Rattle.std.specs.Option.{ForSome}
-use Rattle.dev_traits.specs.Disk.{DiskView, LeftNow}
+use Rattle.dev_traits.specs.Disk.{DiskView}
 use Rattle.dev_traits.specs.Outside.{FilesView, SinkView}
 use Rattle.group_defs.specs.declared.run.AckMark.{AckMark}
 use Rattle.group_defs.specs.declared.run.Limits.{Limits}
@@ -13,13 +12,13 @@ use Rattle.ckpt_chain.specs.Slot.{newest}
 use Rattle.ckpt_records.specs.declared.origin.Origin.{Origin}
 use Rattle.restore_group.specs.Parts.{group_of}
 use Rattle.solo_engine.specs.Answers.{EndsFor as RunEndsFor, HasRun as RunsSo, StandsSafe}
-use Rattle.solo_engine.specs.Safe.{AreAcks, HoldsOne, IsUnwritten, IsWhole, NeverFall, Run, Safe, is_fetch, last_epoch, run_of}
+use Rattle.solo_engine.specs.Safe.{AreAcks, HoldsOne, IsUnwritten, NeverFall, Run, Safe, is_fetch, last_epoch, run_of}
 use Rattle.solo_engine.specs.declared.run.RunAnswer.{RunAnswer}
 use Rattle.solo_engine.specs.declared.run.RunAnswer.TheVariants as answers
-use Rattle.aurora_top.specs.Answers.{EndsFor, EndsWith, HasRun, WasRun, flat_run}
+use Rattle.aurora_top.specs.Answers.{EndsFor, HasRun, WasRun, flat_run}
 use Rattle.aurora_top.specs.Boot.{flat_group}
 use Rattle.aurora_top.specs.End.{end_for}
-use Rattle.aurora_top.specs.Opening.{IsBetween, IsOpenedAt, IsOpenedSince}
+use Rattle.aurora_top.specs.Opening.{IsOpenedAt, IsOpenedSince}
 use Rattle.aurora_top.specs.Refusals.{Runs}
 use Rattle.aurora_top.specs.Starting.{IsStarted}
 use Rattle.aurora_top.specs.declared.end.End.{End}

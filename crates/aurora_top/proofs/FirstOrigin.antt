@@ -1,7 +1,6 @@
 -- The origin of an image's first group is a new disk's.
-use Rattle.std.proofs.Common.{◌≡◌, ℕ, ◌≤◌, List, [], ◌∷◌, length, map, refl, sym, ap, ◌∙◌, subst}
+use Rattle.std.proofs.Common.{◌≡◌, ℕ, ◌≤◌, List, [], ◌∷◌, length, map, sym, ap, ◌∙◌, subst}
 use Rattle.group_defs.specs.declared.frame.Frame.{Frame}
-use Rattle.group_defs.specs.Group.{Group}
 use Rattle.group_defs.specs.Numbers.{AreBytes}
 use Rattle.mem_objects.specs.Pages.{Pages}
 use Rattle.ckpt_chain.specs.declared.slot.Slot.TheVariants.{B}

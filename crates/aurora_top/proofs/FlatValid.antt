@@ -4,7 +4,6 @@ use Rattle.std.proofs.lemmas.List.{length-replicate}
 use Rattle.std.proofs.lemmas.List.Elements.{All-append, All-cons, All-nil, All-replicate}
 use Rattle.std.proofs.lemmas.List.Kept.{AllPairs-cons}
 use Rattle.group_defs.specs.declared.frame.Frame.{Frame}
-use Rattle.group_defs.specs.declared.frame.Out.{Out}
 use Rattle.group_defs.specs.declared.frame.Proc.{Proc}
 use Rattle.group_defs.specs.declared.frame.ProcState.TheVariants.{Running}
 use Rattle.group_defs.specs.declared.frame.ObjectRec.{ObjectRec}
@@ -23,9 +22,9 @@ use Rattle.group_defs.specs.Order.{Rise, IsBefore, NamesRise, OwnListsRise, List
 use Rattle.group_defs.specs.Processes.{BreakValid, RunningValid, ProcValid}
 use Rattle.group_defs.specs.Sizes.{ProcFits, MemoryFits, WithinLimits}
 use Rattle.group_defs.specs.Streams.{StreamsValid}
-use Rattle.group_defs.specs.Valid.{IsObject, OutValid, FrameValid, GroupIsValid}
+use Rattle.group_defs.specs.Valid.{OutValid, FrameValid}
 use Rattle.ckpt_records.specs.Holds.{IsCheckpointed}
-use Rattle.aurora_top.specs.Boot.{flat_group, flat_process, pages_for}
+use Rattle.aurora_top.specs.Boot.{flat_group, pages_for}
 use Rattle.aurora_top.proofs.ImagePages.{within_pages}
 
 -- ---- facts on lists of one, two and three entries

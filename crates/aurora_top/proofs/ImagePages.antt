@@ -1,9 +1,8 @@
 -- The pages of an image, one after another, are the image and zeros behind it.
-use Rattle.std.proofs.Common.{◌≡◌, ⊎_elim, ℕ, zero, suc, ◌+◌, ◌-◌, ◌*◌, ◌/◌, ◌<◌, ◌≤◌, ◌==◌, min, Bool, true, false, List, [], ◌∷◌, ◌++◌, length, take, drop, replicate, Option, Some, None, if◌then◌else◌, refl, sym, ap, ap₂, ◌∙◌, arith, drop-drop, eq-or-lt_of_le, length-append, length-drop}
+use Rattle.std.proofs.Common.{◌≡◌, ⊎_elim, ℕ, zero, suc, ◌+◌, ◌-◌, ◌*◌, ◌<◌, ◌≤◌, ◌==◌, min, Bool, true, false, List, [], ◌∷◌, ◌++◌, length, take, drop, replicate, Option, Some, None, if◌then◌else◌, refl, sym, ap, ap₂, ◌∙◌, arith, drop-drop, eq-or-lt_of_le, length-append, length-drop}
 use Rattle.std.specs.List.{flat_map, range_with_len, AllByRecursion}
 use Rattle.std.proofs.lemmas.List.{append-nil, drop-replicate, length-replicate, length-take, take_all, take_min}
 use Rattle.lists.specs.Bytes.{put}
-use Rattle.group_defs.specs.declared.frame.ObjectRec.{ObjectRec}
 use Rattle.mem_objects.specs.Pages.{IsZero, Pages, Puts, page_of}
 use Rattle.restore_group.specs.Parts.{memory_of, object_bytes, page_in}
 use Rattle.aurora_top.specs.Boot.{image_page, pages_for}

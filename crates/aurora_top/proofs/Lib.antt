@@ -6,3 +6,5 @@ pub mod FlatValid
 pub mod FirstOrigin
 pub mod OpeningLaws
 pub mod Answering
+mod SaidLaws
+mod ReadingLaws

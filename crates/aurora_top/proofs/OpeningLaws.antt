@@ -1,5 +1,5 @@
 -- What a stop leaves of a disk over its opening, and the moment of that.
-use Rattle.std.proofs.Common.{◌≡◌, ◌⊎◌, inl, inr, ⊎_elim, ℕ, ◌≤◌, List, Option, Some, None, refl, ◌∙◌, arith}
+use Rattle.std.proofs.Common.{◌≡◌, inl, inr, ⊎_elim, ℕ, ◌≤◌, List, Option, Some, None, refl, ◌∙◌, arith}
 use Rattle.std.specs.Option.{unwrap_or}
 use Rattle.dev_traits.specs.Disk.{DiskView, LeftNow, NoMore, OnlyReading, Passes}
 use Rattle.ckpt_chain.specs.Reads.{OnlyReads}

@@ -1,6 +1,9 @@
 pub mod End
 pub mod Say
+pub mod Options
 pub mod Words
+pub mod Said
+pub mod Spelling
 pub mod Refusals
 pub mod Boot
 pub mod Opening

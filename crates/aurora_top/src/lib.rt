@@ -9,18 +9,23 @@ mod boot;
 mod end;
 mod manifest;
 mod opening;
+mod options;
+mod said;
 mod say;
 mod solo;
+pub mod spelling;
 mod starting;
 mod words;
 
 pub use end::{End, Ending, status_of};
 pub use say::say_line;
 pub use solo::aurora_solo;
-pub use words::{Mode, mode_of};
+pub use words::{Command, Kind, Mode, command_of, mode_of};
 
 #[cfg(test)]
 mod barriers;
+#[cfg(test)]
+mod command_tests;
 #[cfg(test)]
 mod samples;
 #[cfg(test)]

@@ -1,8 +1,12 @@
 //! The words of a command.
-ghost use Rattle.std.specs.Prelude.{◌≡◌, IsTrue, false};
-ghost use Rattle.aurora_top.specs.Words.{is_name as names, is_run as runs, manifest_of as manifest_name};
+ghost use Rattle.std.specs.Prelude.{◌≡◌, IsTrue, false, ◌∷◌};
+ghost use Rattle.std.specs.Option.{option_map};
+ghost use Rattle.aurora_top.specs.Words.{is_run as runs, manifest_of as manifest_name, command_of_words, asked_by, asked_with};
+ghost use Rattle.aurora_top.specs.Said.{names_in, limits_said};
 
+use crate::said::{Names, Said, is_name, limits_of, said_by};
 use dev_traits::Word;
+use group_defs::Limits;
 
 /// Which call a command is for.
 #[derive(Clone, Copy, Debug, PartialEq, Eq)]
@@ -17,14 +21,25 @@ pub enum Mode {
     Bad,
 }
 
-// Whether a word names a file.
-fn is_name(word: &Word) -> bool
-    ensures { result ≡ names word.now }
-{
-    match word.as_str().as_bytes() {
-        [] => false,
-        [first, ..] => *first != b'-',
-    }
+/// What a run begins with.
+#[derive(Clone, Copy, Debug, PartialEq, Eq)]
+pub enum Kind<'a> {
+    /// The first group of the manifest of this name.
+    Run { manifest: &'a str },
+    /// The disk's newest checkpoint.
+    Restore,
+}
+
+/// What a command asks for: a run on one thread.
+#[derive(Clone, Copy, Debug, PartialEq, Eq)]
+pub struct Command<'a> {
+    pub kind: Kind<'a>,
+    /// The disk's name.
+    pub disk: &'a str,
+    /// The output's name.
+    pub out: &'a str,
+    /// Those of the options, and the usual ones where an option is absent.
+    pub limits: Limits,
 }
 
 /// Whether the words are `run` and the names of a disk, an output and a manifest.
@@ -39,14 +54,6 @@ pub fn is_run(words: &[Word]) -> bool
     }
 }
 
-/// The call that the words are for.
-pub fn mode_of(words: &[Word]) -> Mode
-    ensures solo { IsTrue (runs words.now) → result ≡ Mode.Solo }
-    ensures bad { runs words.now ≡ false → result ≡ Mode.Bad }
-{
-    if is_run(words) { Mode::Solo } else { Mode::Bad }
-}
-
 /// The manifest's name, of words that are `run` and three names.
 pub fn manifest_of(words: &[Word]) -> &str
     requires { IsTrue (runs words.now) }
@@ -56,4 +63,52 @@ pub fn manifest_of(words: &[Word]) -> &str
         [_, _, _, manifest] => manifest.as_str(),
         _ => "",
     }
+}
+
+// The command of this first word, where as many names stand behind it as it has.
+fn asked<'a>(first: &str, said: Said<'a>) -> Option<Command<'a>>
+    ensures { option_map asked_by result ≡ asked_with first.now (names_in said.entry.names) (limits_said said.entry) }
+{
+    let limits = limits_of(said);
+    match said.names {
+        Names::All(disk, out, manifest) if first == "run" => Some(Command {
+            kind: Kind::Run { manifest },
+            disk,
+            out,
+            limits,
+        }),
+        Names::DiskOut(disk, out) if first == "restore" => Some(Command {
+            kind: Kind::Restore,
+            disk,
+            out,
+            limits,
+        }),
+        _ => None,
+    }
+}
+
+/// The command that the words spell.
+///
+/// The first word is `run`, with the names of a disk, an output and a manifest, or `restore`, with the names of a disk and
+/// an output. The options `--turns` (1 to 1,000,000, and 1,000,000 where it is absent), `--quantum` (1 to 100,000; 1,000) and
+/// `--every` (1 to 10,000; 100) stand anywhere behind it, each at most once, as two words or as `--turns=5`. A number has 1
+/// to 7 decimal digits. Any other word that begins with `-`, and an empty word, spells nothing.
+pub fn command_of(words: &[Word]) -> Option<Command<'_>>
+    ensures { option_map asked_by result ≡ command_of_words words.now }
+{
+    match words {
+        [] => None,
+        [first, after @ ..] => match said_by(after) {
+            Some(said) => asked(first.as_str(), said),
+            None => None,
+        },
+    }
+}
+
+/// The call that the words are for.
+pub fn mode_of(words: &[Word]) -> Mode
+    ensures solo { IsTrue (runs words.now) → result ≡ Mode.Solo }
+    ensures bad { runs words.now ≡ false → result ≡ Mode.Bad }
+{
+    if is_run(words) { Mode::Solo } else { Mode::Bad }
 }

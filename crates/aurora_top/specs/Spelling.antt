@@ -1,0 +1,53 @@
+-- How a command is spelled: the grammar of its words, told from what is spelled.
+use Rattle.std.specs.Prelude.{◌≡◌, ℕ, ◌≤◌, ◌⊎◌, IsTrue, List, [], ◌∷◌, ◌++◌, codes}
+use Rattle.std.specs.Str.Parse.{digits_value}
+use Rattle.aurora_top.specs.declared.options.Setting.{Setting}
+use Rattle.aurora_top.specs.declared.options.Setting.TheVariants.{Turns, Quantum, Every}
+use Rattle.aurora_top.specs.Options.{flag_of, most_of, usual_of, is_number}
+use Rattle.aurora_top.specs.Words.{is_name, Piece, name, option, Beginning, new, held, Asked, names_of, values_of}
+
+-- one to seven decimal digits that write n, within the option's limits
+pub record Writes (s : Setting) (n : ℕ) (digits : List ℕ) : Type 0 where
+  pub number : IsTrue (is_number digits)
+  pub value : digits_value 10 digits ≡ n
+  pub least : 1 ≤ n
+  pub most : n ≤ most_of s
+
+-- the words begin with the piece, and the rest stands behind it; an option is two words, or one with `=` between the two
+abbrev pub BeginWith : Piece → List (List ℕ) → List (List ℕ) → Type 0
+BeginWith (name word) words rest = IsTrue (is_name word) × (words ≡ word ∷ rest)
+BeginWith (option s n) words rest =
+    (digits : List ℕ) × Writes s n digits × ((words ≡ flag_of s ∷ digits ∷ rest) ⊎ (words ≡ (flag_of s ++ 61 ∷ digits) ∷ rest))
+
+-- the words are the pieces, one after the other
+abbrev pub Spell : List Piece → List (List ℕ) → Type 0
+Spell [] words = words ≡ []
+Spell (piece ∷ pieces) words = (rest : List (List ℕ)) × BeginWith piece words rest × Spell pieces rest
+
+-- an option stands at most once, and where it is absent its usual value holds
+abbrev pub Holds : ℕ → List ℕ → ℕ → Type 0
+Holds usual [] n = n ≡ usual
+Holds usual (m ∷ []) n = n ≡ m
+Holds usual (m ∷ k ∷ more) n = ⊥
+
+abbrev pub first_word : Beginning → List ℕ
+first_word (new manifest) = codes "run"
+first_word held = codes "restore"
+
+-- a manifest is named where the run begins with one
+abbrev pub manifest_in : Beginning → List (List ℕ)
+manifest_in (new manifest) = manifest ∷ []
+manifest_in held = []
+
+-- the words spell the command
+pub record IsSpelled (command : Asked) (words : List (List ℕ)) : Type 0 where
+  pub rest : List (List ℕ)
+  pub pieces : List Piece
+  pub first : words ≡ first_word command.beginning ∷ rest
+  pub spelled : Spell pieces rest
+  pub names : names_of pieces ≡ command.disk ∷ command.out ∷ manifest_in command.beginning
+  pub turns : Holds (usual_of Turns) (values_of Turns pieces) command.limits.turns
+  pub quantum : Holds (usual_of Quantum) (values_of Quantum pieces) command.limits.quantum
+  pub every : Holds (usual_of Every) (values_of Every pieces) command.limits.every
+  pub workers : command.limits.workers ≡ 0
+  pub flushers : command.limits.flushers ≡ 1
