@@ -7,12 +7,12 @@ use Rattle.group_defs.specs.declared.run.AckMark.{AckMark}
 use Rattle.group_defs.specs.declared.run.Limits.{Limits}
 use Rattle.group_defs.specs.declared.run.Mark.{Mark}
 use Rattle.group_defs.specs.Group.{Group}
-use Rattle.group_defs.specs.Trace.{turns_in}
+use Rattle.group_defs.specs.Trace.{turns_in, is_fetch}
 use Rattle.ckpt_chain.specs.Slot.{newest}
 use Rattle.ckpt_records.specs.declared.origin.Origin.{Origin}
 use Rattle.restore_group.specs.Parts.{group_of}
 use Rattle.solo_engine.specs.Answers.{EndsFor as RunEndsFor, HasRun as RunsSo, StandsSafe}
-use Rattle.solo_engine.specs.Safe.{AreAcks, HoldsOne, IsUnwritten, NeverFall, Run, Safe, is_fetch, last_epoch, run_of}
+use Rattle.solo_engine.specs.Safe.{AreAcks, HoldsOne, IsUnwritten, NeverFall, Run, Safe, last_epoch, run_of}
 use Rattle.solo_engine.specs.declared.run.RunAnswer.{RunAnswer}
 use Rattle.solo_engine.specs.declared.run.RunAnswer.TheVariants as answers
 use Rattle.aurora_top.specs.Answers.{EndsFor, HasRun, WasRun, flat_run}

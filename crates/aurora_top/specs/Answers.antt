@@ -12,9 +12,9 @@ use Rattle.group_defs.specs.Ends.{IsDone, IsSpent, IsStuck}
 use Rattle.group_defs.specs.Legal.{Legal}
 use Rattle.group_defs.specs.Output.{last_position}
 use Rattle.group_defs.specs.Solo.{IsSoloPrefix}
-use Rattle.group_defs.specs.Trace.{turns_in}
+use Rattle.group_defs.specs.Trace.{turns_in, is_fetch}
 use Rattle.solo_engine.specs.Answers.{IsDiskFull}
-use Rattle.solo_engine.specs.Safe.{AreAcks, IsUnwritten, IsWhole, KeepsLast, Released, Run, Safe, is_fetch, last_acked, last_group, run_of}
+use Rattle.solo_engine.specs.Safe.{AreAcks, IsUnwritten, IsWhole, KeepsLast, Released, Run, Safe, last_acked, last_group, run_of}
 use Rattle.aurora_top.specs.Boot.{flat_group}
 use Rattle.aurora_top.specs.Refusals.{Refused, Runs}
 use Rattle.aurora_top.specs.declared.end.End.{End}

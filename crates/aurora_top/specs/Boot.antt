@@ -2,7 +2,7 @@
 use Rattle.std.specs.Prelude.{ℕ, ◌+◌, ◌-◌, ◌*◌, ◌/◌, false, List, [], ◌∷◌, ◌++◌, length, replicate, take, drop}
 use Rattle.group_defs.specs.declared.frame.Proc.{Proc}
 use Rattle.group_defs.specs.declared.frame.ProcState.TheVariants.{Running}
-use Rattle.group_defs.specs.declared.opens.OpenKind.TheVariants.{Nothing, Outside}
+use Rattle.descriptors.specs.declared.opens.OpenKind.TheVariants.{Nothing, Outside}
 use Rattle.group_defs.specs.Group.{Group}
 
 -- the pages that an image's bytes take

@@ -13,7 +13,7 @@ use Rattle.aurora_top.specs.Refusals.{NamesImage, Runs}
 pub record IsFirst (image : List ℕ) (o : Origin) : Type 0 where
   pub group : group_of o.parts ≡ flat_group image
   pub new : IsNew o
-  pub unworn : IsUnworn o
+  pub unworn : IsUnworn o.epoch o.parts.frame
 
 -- The origin is that of the image that the manifest of this name names.
 pub record IsBooted (files : FilesView) (word : List ℕ) (o : Origin) : Type 0 where

@@ -174,7 +174,7 @@ pub fn flat_origin(alloc: Global, image: Vec<u8>, gates: [u8; 2]) -> Result<Orig
     requires { (1 ≤ length image.items) × (length image.items ≤ 16777216) }
     ensures group { IfOk result (λ o. group_of o.parts ≡ flat_group image.items) }
     ensures new { IfOk result (λ o. IsNew o) }
-    ensures unworn { IfOk result (λ o. IsUnworn o) }
+    ensures unworn { IfOk result (λ o. IsUnworn o.epoch o.parts.frame) }
     ensures gates { IfOk result (λ o. o.gates ≡ gates) }
 {
     bytes_fit(&image);

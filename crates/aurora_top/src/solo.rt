@@ -1,12 +1,12 @@
 //! A run on one thread.
 ghost use Rattle.std.specs.Prelude.{◌≡◌, ◌≤◌, ◌⊎◌, ◌↔◌, None, false};
 ghost use Rattle.group_defs.specs.Trace.{turns_in};
-ghost use Rattle.solo_engine.specs.Origin.{LimitsFit};
 ghost use Rattle.solo_engine.specs.Safe.{last_epoch};
 ghost use Rattle.aurora_top.specs.Answers.{HasAnswered, WasRefused, WasRun, usual_limits};
 ghost use Rattle.aurora_top.specs.End.{end_for as end_named, status_of as number_of};
 ghost use Rattle.aurora_top.specs.Opening.{IsBetween};
 ghost use Rattle.aurora_top.specs.Words.{is_run};
+ghost use Rattle.group_defs.specs.Sizes.{LimitsFit};
 
 use crate::end::{End, Ending, end_for, status_of};
 use crate::starting::prepare;

@@ -6,7 +6,6 @@ pub mod Seen
 pub mod SoloLaws
 pub mod SoloGoesOn
 pub mod PageLaws
-pub mod Adjacent
 pub mod Inside
 pub mod Others
 pub mod MovedLaws

@@ -6,7 +6,7 @@ use Rattle.rv64_isa.specs.Memory.{bytes_with}
 use Rattle.rv64_isa.specs.Numbers.{number_of}
 use Rattle.rv64_isa.specs.Instruction.{act_of}
 use Rattle.rv64_isa.specs.Reading.{op_imm_by, imm_by, system_by, imm_i, imm_u, instr_by}
-use Rattle.group_defs.specs.Lists.{on_first}
+use Rattle.tables.specs.Lists.{on_first}
 use Rattle.group_defs.specs.Group.{Group, is_running, runner}
 use Rattle.group_defs.specs.Cells.{cells_of, with_writes}
 use Rattle.group_defs.specs.Write.{write}

@@ -10,7 +10,6 @@ pub mod Processes
 pub mod Valid
 pub mod Built
 pub mod Reserved
-pub mod Lists
 pub mod Cells
 pub mod Calls
 pub mod Output

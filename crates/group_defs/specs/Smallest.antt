@@ -3,8 +3,8 @@ use Rattle.std.specs.Prelude.{ℕ, false, List, [], ◌∷◌, replicate}
 use Rattle.group_defs.specs.declared.frame.Proc.{Proc}
 use Rattle.group_defs.specs.declared.frame.ProcState.TheVariants.{Running, Ended}
 use Rattle.group_defs.specs.declared.frame.ObjectRec.{ObjectRec}
-use Rattle.group_defs.specs.declared.opens.Open.{Open}
-use Rattle.group_defs.specs.declared.opens.OpenKind.TheVariants.{Nothing, Outside}
+use Rattle.descriptors.specs.declared.opens.Open.{Open}
+use Rattle.descriptors.specs.declared.opens.OpenKind.TheVariants.{Nothing, Outside}
 use Rattle.group_defs.specs.declared.run.Limits.{Limits}
 use Rattle.group_defs.specs.declared.run.Mark.{Mark}
 use Rattle.group_defs.specs.declared.run.Mark.TheVariants.{Take, Turn, Barrier, Fetch, Ack}

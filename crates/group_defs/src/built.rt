@@ -2,7 +2,7 @@ ghost use Rattle.std.specs.Prelude.{◌≡◌, ◌↔◌, ◌≤◌, [], IsTrue,
 ghost use Rattle.group_defs.specs.Built.{IsPlain, IsAlone, OnlyBuilt};
 
 use crate::frame::{Frame, Proc};
-use crate::opens::OpenKind;
+use descriptors::OpenKind;
 
 fn is_plain(kind: OpenKind) -> bool
     ensures { IsTrue result ↔ IsPlain kind }

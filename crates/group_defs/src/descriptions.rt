@@ -2,7 +2,7 @@ ghost use Rattle.std.specs.Prelude.{◌≡◌, ◌↔◌, ◌⊎◌, [], IsTrue,
 ghost use Rattle.group_defs.specs.Descriptions.{Owns, IsOwned, IsOpen, DescriptorsValid, HasFile, HasPipe, HasPair, TargetIsThere, IsFileFlags, PositionValid, OpenValid, DescriptionsValid};
 
 use crate::frame::{Frame, Proc};
-use crate::opens::{Open, OpenKind};
+use descriptors::{Open, OpenKind};
 
 #[tactic(auto, unfolding(crate::specs::Descriptions::Owns))]
 fn owns(number: u64, p: &Proc) -> bool

@@ -3,8 +3,8 @@ ghost use Rattle.group_defs.specs.Streams as of_streams;
 ghost use Rattle.group_defs.specs.Streams.{HasEnds, EmptyUnless, PipeValid, PairValid, StreamsValid};
 
 use crate::frame::Frame;
-use crate::opens::{Open, OpenKind};
-use crate::streams::{Pair, Pipe};
+use descriptors::{Open, OpenKind};
+use pipes_socks::{Pair, Pipe};
 
 fn reads_pipe(number: u64, kind: OpenKind) -> bool
     ensures { result ≡ of_streams.reads_pipe number kind }

@@ -5,7 +5,7 @@ ghost use Rattle.std.specs.List.{list_any};
 ghost use Rattle.rv64_isa.specs.Instruction.{instruction};
 ghost use Rattle.rv64_isa.specs.Memory.{Write, private_cells, stored_all};
 ghost use Rattle.group_defs.specs.declared.frame.Proc.{Proc};
-ghost use Rattle.group_defs.specs.declared.maps.Mapping.{Mapping};
+ghost use Rattle.address_maps.specs.declared.maps.Mapping.{Mapping};
 ghost use Rattle.group_defs.specs.declared.run.Limits.{Limits};
 ghost use Rattle.group_defs.specs.declared.run.Mark.{Mark};
 ghost use Rattle.group_defs.specs.declared.run.Mark.TheVariants.{Barrier, Turn};

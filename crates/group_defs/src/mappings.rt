@@ -1,9 +1,10 @@
 ghost use Rattle.std.specs.Prelude.{◌≡◌, ◌↔◌, IsTrue, All};
-ghost use Rattle.group_defs.specs.Mappings as of_mappings;
-ghost use Rattle.group_defs.specs.Mappings.{IsPlaced, IsInside, AreApart, MappingsValid};
+ghost use Rattle.address_maps.specs.Mappings as of_mappings;
+ghost use Rattle.group_defs.specs.Mappings.{IsPlaced, IsInside, MappingsValid};
+ghost use Rattle.address_maps.specs.Mappings.{AreApart};
 
 use crate::frame::{ObjectRec, Proc};
-use crate::maps::Mapping;
+use address_maps::Mapping;
 
 fn end_of(m: &Mapping) -> u128
     ensures { result ≡ of_mappings.end_of m.now }

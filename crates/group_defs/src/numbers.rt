@@ -2,7 +2,7 @@ ghost use Rattle.std.specs.Prelude.{◌≡◌, ◌↔◌, ◌<◌, ◌≤◌, �
 ghost use Rattle.group_defs.specs.Numbers.{AreBytes, RegsFit, NextFits, MessagesAreBytes, NumbersFit, NextIsAbove, NextValid};
 
 use crate::frame::{Frame, Next, Proc};
-use crate::streams::Pair;
+use pipes_socks::Pair;
 
 // The numbers of a frame fit their types because they have these types. The functions down to
 // `numbers_fit` always answer true: they read each number, and what is read is known to fit.

@@ -3,7 +3,7 @@ ghost use Rattle.group_defs.specs.Objects as of_objects;
 ghost use Rattle.group_defs.specs.Objects.{IsMappedAs, IsSharedObject, IsPrivateObject, IsMemoryObject, ObjectsValid, FileValid};
 
 use crate::frame::{Frame, ObjectRec, Proc};
-use crate::named_files::FileRec;
+use group_files::FileRec;
 
 /// Whether an object is a file's.
 #[tactic(auto, unfolding(crate::specs::Objects::is_of_file))]

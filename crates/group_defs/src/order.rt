@@ -1,11 +1,13 @@
 ghost use Rattle.std.specs.Prelude.{◌≡◌, ◌<◌, ◌↔◌, IsTrue, All};
 ghost use Rattle.std.specs.Cmp.Lexicographic.{slice_cmp};
 ghost use Rattle.std.specs.Ordering.{is_lt, nat_cmp};
-ghost use Rattle.group_defs.specs.Order.{Rise, NamesRise, OwnListsRise, ListsRise};
+ghost use Rattle.tables.specs.Rising.{Rise};
+ghost use Rattle.group_files.specs.Files.{NamesRise};
+ghost use Rattle.group_defs.specs.Order.{OwnListsRise, ListsRise};
 
 use crate::frame::{Frame, Proc};
-use crate::keyed::rises;
-use crate::named_files::FileRec;
+use group_files::FileRec;
+use tables::rises;
 
 fn is_before(a: &[u8], b: &[u8]) -> bool
     ensures { result ≡ is_lt (slice_cmp nat_cmp a.now b.now) }

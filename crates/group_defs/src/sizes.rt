@@ -1,12 +1,14 @@
 ghost use Rattle.std.specs.Prelude.{◌≡◌, ◌↔◌, ◌<◌, ◌≤◌, IsTrue, All, length, sum_by};
 ghost use Rattle.group_defs.specs.Objects as of_objects;
-ghost use Rattle.group_defs.specs.Sizes.{ProcFits, IsName, FileFits, QueueFits, PairFits, MemoryFits, WithinLimits};
+ghost use Rattle.group_defs.specs.Sizes.{ProcFits, QueueFits, PairFits, MemoryFits, WithinLimits};
+ghost use Rattle.group_files.specs.Names.{IsName};
+ghost use Rattle.group_files.specs.Files.{FileFits};
 
 use crate::frame::{Frame, Proc};
-use crate::named_files::FileRec;
 use crate::objects::is_of_file;
-use crate::streams::{Pair, Pipe};
+use group_files::FileRec;
 use lists::Seq;
+use pipes_socks::{Pair, Pipe};
 
 #[tactic(auto, unfolding(crate::specs::Sizes::ProcFits))]
 fn proc_fits(p: &Proc) -> bool
@@ -15,14 +17,14 @@ fn proc_fits(p: &Proc) -> bool
     p.pid >= 1 && p.maps.len() <= 1_024 && p.fds.as_slice().iter().all(|d| d.0 < 64)
 }
 
-#[tactic(auto, unfolding(crate::specs::Sizes::IsName))]
+#[tactic(auto, unfolding(group_files::specs::Names::IsName))]
 fn is_name(name: &[u8]) -> bool
     ensures { IsTrue result ↔ IsName name.now }
 {
     name.len() >= 1 && name.len() <= 64 && name.iter().all(|b| *b >= 33 && *b <= 126)
 }
 
-#[tactic(auto, unfolding(crate::specs::Sizes::FileFits))]
+#[tactic(auto, unfolding(group_files::specs::Files::FileFits))]
 fn file_fits(file: &FileRec) -> bool
     ensures { IsTrue result ↔ FileFits file.now }
 {

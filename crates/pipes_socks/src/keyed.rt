@@ -1,5 +1,6 @@
 use crate::channel::Channel;
 use crate::ends::Ends;
+use crate::streams::{Pair, Pipe};
 use tables::Keyed;
 
 impl Keyed for Channel {
@@ -15,5 +16,21 @@ impl Keyed for Ends {
 
     fn key(&self) -> u64 {
         self.number()
+    }
+}
+
+impl Keyed for Pipe {
+    ghost key = { λ p. p.number };
+
+    fn key(&self) -> u64 {
+        self.number
+    }
+}
+
+impl Keyed for Pair {
+    ghost key = { λ p. p.number };
+
+    fn key(&self) -> u64 {
+        self.number
     }
 }

@@ -1,6 +1,6 @@
 mod HeldLaws
 mod LayerLaws
-mod Ordered
+pub mod Ordered
 mod PartsLaws
 mod OwnLaws
 mod ReadLaws

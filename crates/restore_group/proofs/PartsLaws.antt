@@ -9,7 +9,7 @@ use Rattle.group_defs.specs.Touched.{all_pages, nonzero_pages, page_bytes, is_ze
 use Rattle.group_defs.specs.Valid.{IsObject, EndsInZeros}
 use Rattle.group_defs.specs.declared.frame.Frame.{Frame}
 use Rattle.group_defs.specs.declared.frame.ObjectRec.{ObjectRec}
-use Rattle.group_defs.specs.declared.named_files.FileRec.{FileRec}
+use Rattle.group_files.specs.declared.named_files.FileRec.{FileRec}
 use Rattle.mem_objects.specs.Pages.{Pages}
 use Rattle.ckpt_chain.specs.Chain.{block}
 use Rattle.ckpt_records.specs.declared.meta.PagePlace.{PagePlace}

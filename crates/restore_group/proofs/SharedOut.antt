@@ -4,7 +4,7 @@ use Rattle.std.specs.Prelude.{Any}
 use Rattle.std.specs.List.{flat_map, AllZip, AllByRecursion}
 use Rattle.std.proofs.lemmas.Bool.Decides.{nat_tests}
 use Rattle.std.proofs.lemmas.List.Elements.{recursion_from_All}
-use Rattle.group_defs.specs.Order.{Rise}
+use Rattle.tables.specs.Rising.{Rise}
 use Rattle.group_defs.specs.declared.frame.Frame.{Frame}
 use Rattle.group_defs.specs.declared.frame.ObjectRec.{ObjectRec}
 use Rattle.ckpt_records.specs.declared.meta.PagePlace.{PagePlace}

@@ -19,8 +19,9 @@ use Rattle.solo_engine.specs.Engine.{group_in}
 use Rattle.solo_engine.specs.Interval.{IsFirstKept, ReleasesPart, ReleasesRest}
 use Rattle.solo_engine.specs.Keeping.{Keeps, Kept, nothing, checkpoint, epoch_after, other, target_after, used_by}
 use Rattle.solo_engine.specs.Known.{IsKeptOf, Knows, KnowsGates}
-use Rattle.solo_engine.specs.Origin.{IsOrigin, IsOriginOf, IsUnworn, IsWithin, LimitsFit}
+use Rattle.solo_engine.specs.Origin.{IsOrigin, IsOriginOf, IsUnworn, IsWithin}
 use Rattle.solo_engine.specs.Safe.{run_of}
+use Rattle.group_defs.specs.Sizes.{LimitsFit}
 use Rattle.solo_engine.specs.declared.engine_group.EngineGroup.{EngineGroup}
 use Rattle.solo_engine.specs.declared.kept.KeptBlocks.{KeptBlocks}
 use Rattle.solo_engine.specs.declared.run.RunAnswer.TheVariants.{NoMemory, SinkFault}
@@ -118,7 +119,7 @@ origin_checkpointed count o (inl new) = new.group
 origin_checkpointed count o (inr sound) = sound.group
 
 -- memory ran out before the run began
-pub ends_unbegun : (limits : Limits) (count : ℕ) (o : Origin) (disk : DiskView) (out : SinkView) → LimitsFit limits → IsOrigin count o → ForSome disk.reading (λ r. IsOriginOf r o) → IsUnworn o → IsWithin out o → OnlyReading disk
+pub ends_unbegun : (limits : Limits) (count : ℕ) (o : Origin) (disk : DiskView) (out : SinkView) → LimitsFit limits → IsOrigin count o → ForSome disk.reading (λ r. IsOriginOf r o) → IsUnworn o.epoch o.parts.frame → IsWithin out o.parts.frame.out → OnlyReading disk
     → HasRun (run_of limits (group_of o.parts) o.epoch []) [] disk disk out out NoMemory
 ends_unbegun limits count o disk out fit origin of unworn within only =
     let f = kept_for count o disk.reading origin of in
@@ -126,7 +127,7 @@ ends_unbegun limits count o disk out fit origin of unworn within only =
       every = fit.every.0;
       turns = fit.turns.1;
       checkpointed = origin_checkpointed count o origin;
-      epoch = unworn.epoch;
+      epoch = unworn.epoch_is;
       position = unworn.output;
     } in
     unbegun limits (group_of o.parts) o.epoch s disk out only f.kept f.next f.first f.keeps within.0 within.1

@@ -14,11 +14,11 @@ use Rattle.group_defs.specs.Legal.{Allowed, AckAllowed, BarrierAllowed, FetchAll
 use Rattle.group_defs.specs.Output.{last_position}
 use Rattle.group_defs.specs.Solo.{InOrder, InOrderAfter, IsSoloPrefix, IsSoloSoFar, IsSoloTrace, TakeInOrder}
 use Rattle.group_defs.specs.Step.{is_waiting}
-use Rattle.group_defs.specs.Trace.{after_mark, all_acked, barrier, barrier_group, group_after, group_of, is_ack_of, is_acked, is_barrier, is_barrier_of, is_fetch_of, is_lease, is_turn, last_taken, leases, leases_after, since_barrier, turns_in}
+use Rattle.group_defs.specs.Trace.{after_mark, all_acked, barrier, barrier_group, group_after, group_of, is_ack_of, is_acked, is_barrier, is_barrier_of, is_fetch_of, is_lease, is_turn, last_taken, leases, leases_after, since_barrier, turns_in, acked_epoch, acked_epochs}
 use Rattle.group_defs.specs.Turns.{IsTurn, does_something, turned}
 use Rattle.group_defs.proofs.SoloGoesOn.{counted, goes_to_its_end, group_more, last_at, leases_more, since_more}
 use Rattle.group_defs.proofs.TraceLaws.{legal_more, legal_none}
-use Rattle.solo_engine.specs.Going.{NoneOf, StandsAt, acked_epoch, acked_epochs, acknowledged, barred, fetched, taken, turned_by}
+use Rattle.solo_engine.specs.Going.{NoneOf, StandsAt, acknowledged, barred, fetched, taken, turned_by}
 
 -- ---- one mark more
 

@@ -8,10 +8,10 @@ use Rattle.rv64_isa.specs.Numbers.{low_word}
 use Rattle.rv64_isa.specs.Registers.{a0, a1, a2, answered, call_number}
 use Rattle.group_defs.specs.declared.frame.Out.{Out}
 use Rattle.group_defs.specs.declared.frame.Proc.{Proc}
-use Rattle.group_defs.specs.declared.maps.Mapping.{Mapping}
-use Rattle.group_defs.specs.declared.opens.Open.{Open}
-use Rattle.group_defs.specs.declared.opens.OpenKind.{OpenKind}
-use Rattle.group_defs.specs.declared.opens.OpenKind.TheVariants.{Nothing, Outside, File, PipeRead, PipeWrite, PairEnd}
+use Rattle.address_maps.specs.declared.maps.Mapping.{Mapping}
+use Rattle.descriptors.specs.declared.opens.Open.{Open}
+use Rattle.descriptors.specs.declared.opens.OpenKind.{OpenKind}
+use Rattle.descriptors.specs.declared.opens.OpenKind.TheVariants.{Nothing, Outside, File, PipeRead, PipeWrite, PairEnd}
 use Rattle.group_defs.specs.Calls.{Reply, refuses, answers, ends, reply_map, EBADF, ENOSYS}
 use Rattle.group_defs.specs.Cells.{cells_of, with_writes}
 use Rattle.group_defs.specs.Group.{Group}

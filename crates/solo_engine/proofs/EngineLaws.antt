@@ -3,7 +3,7 @@ use Rattle.std.proofs.Common.{◌≡◌, ℕ, Bool, true, false, List, [], Resul
 use Rattle.std.specs.Prelude.{if◌then◌else◌, OnErr, OnOk, is_err}
 use Rattle.rv64_isa.specs.declared.regs.Regs.{Regs}
 use Rattle.group_defs.specs.declared.frame.Out.{Out}
-use Rattle.group_defs.specs.declared.maps.Mapping.{Mapping}
+use Rattle.address_maps.specs.declared.maps.Mapping.{Mapping}
 use Rattle.solo_engine.specs.Engine.{ended_group, group_in, running_group}
 use Rattle.solo_engine.specs.Memory.{memory_in}
 use Rattle.solo_engine.specs.declared.engine_group.EngineGroup.{EngineGroup}

@@ -12,7 +12,7 @@ use Rattle.commit_gate.specs.Whole.{IsPlaced, numbers, with_blocks, finished}
 use Rattle.commit_gate.specs.declared.whole.Block.{Block}
 use Rattle.commit_gate.proofs.Images.{blocks_same}
 use Rattle.solo_engine.proofs.Keeps.{block_is, same_block, low}
-use Rattle.solo_engine.proofs.Ordered.{IsOrdered, each_both}
+use Rattle.restore_group.proofs.Ordered.{IsOrdered, each_both}
 
 -- a block that was put
 block_put : (image : List ℕ) (n : ℕ) (bytes : List ℕ) → length bytes ≡ 4096 → 4096 * n + length bytes ≤ length image → block (put image (4096 * n) bytes) n ≡ bytes

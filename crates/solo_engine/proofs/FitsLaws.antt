@@ -7,7 +7,8 @@ use Rattle.group_defs.specs.Descriptions.{DescriptionsValid, DescriptorsValid, O
 use Rattle.group_defs.specs.Mappings.{MappingsValid, IsPlaced as IsMapped, IsInside}
 use Rattle.group_defs.specs.Numbers as numbers
 use Rattle.group_defs.specs.Numbers.{NextValid, NextIsAbove}
-use Rattle.group_defs.specs.Order.{Rise, OwnListsRise}
+use Rattle.tables.specs.Rising.{Rise}
+use Rattle.group_defs.specs.Order.{OwnListsRise}
 use Rattle.group_defs.specs.Output.{last_position}
 use Rattle.group_defs.specs.Processes.{ProcValid, StateValid, RunningValid, BreakValid, EndedValid, IsWaitStatus, IsCleared}
 use Rattle.group_defs.specs.Sizes as sizes
@@ -17,15 +18,15 @@ use Rattle.group_defs.specs.declared.frame.ObjectRec.{ObjectRec}
 use Rattle.group_defs.specs.declared.frame.Proc.{Proc}
 use Rattle.group_defs.specs.declared.frame.ProcState.{ProcState}
 use Rattle.group_defs.specs.declared.frame.ProcState.TheVariants as states
-use Rattle.group_defs.specs.declared.maps.Mapping.{Mapping}
-use Rattle.group_defs.specs.declared.opens.Open.{Open}
-use Rattle.group_defs.specs.declared.opens.OpenKind.{OpenKind}
-use Rattle.group_defs.specs.declared.opens.OpenKind.TheVariants as kinds
+use Rattle.address_maps.specs.declared.maps.Mapping.{Mapping}
+use Rattle.descriptors.specs.declared.opens.Open.{Open}
+use Rattle.descriptors.specs.declared.opens.OpenKind.{OpenKind}
+use Rattle.descriptors.specs.declared.opens.OpenKind.TheVariants as kinds
 use Rattle.ckpt_records.specs.Fits as fits
 use Rattle.ckpt_records.specs.Fits.{RecordFits}
 use Rattle.ckpt_records.specs.Spells.{IsPageOf, IsPlaced as IsPagePlaced}
 use Rattle.ckpt_records.specs.declared.meta.PagePlace.{PagePlace}
-use Rattle.solo_engine.proofs.Ordered.{IsOrdered, each_weaker, each_both, ordered_of_pairs}
+use Rattle.restore_group.proofs.Ordered.{IsOrdered, each_weaker, each_both, ordered_of_pairs}
 
 -- ---- lists
 

@@ -19,7 +19,7 @@ use Rattle.group_defs.specs.Group.{Group}
 use Rattle.group_defs.specs.Legal.{ready}
 use Rattle.group_defs.specs.Output.{last_position}
 use Rattle.group_defs.specs.Solo.{IsSoloSoFar, IsSoloTrace}
-use Rattle.group_defs.specs.Trace.{IsGroupOf, barrier, group_after, is_ack_of, is_barrier_of, is_fetch_of, group_of, mark_of, output}
+use Rattle.group_defs.specs.Trace.{IsGroupOf, barrier, group_after, is_ack_of, is_barrier_of, is_fetch_of, group_of, mark_of, output, acked_epoch, is_fetch}
 use Rattle.group_defs.specs.Valid.{OutValid}
 use Rattle.block_alloc.specs.Free.{MayBeFree}
 use Rattle.ckpt_chain.specs.Chain.{Has}
@@ -30,11 +30,11 @@ use Rattle.ckpt_records.specs.Holds.{Holds, HoldsAt, IsCheckpointed, block_numbe
 use Rattle.commit_gate.specs.Whole.{IsPlaced, Reads, finished, numbers}
 use Rattle.commit_gate.specs.declared.whole.Block.{Block}
 use Rattle.solo_engine.specs.Answers.{EndsFor, HasFree, HasRun, IsDiskFull, StandsSafe, cost_of}
-use Rattle.solo_engine.specs.Going.{StandsAt, acked_epoch, fetched, acknowledged, output_between}
+use Rattle.solo_engine.specs.Going.{StandsAt, fetched, acknowledged, output_between}
 use Rattle.solo_engine.specs.Interval.{EndsIn, IsCommitted, IsDue, IsFetched, IsFirstKept, IsLonger, IsReady, IsUncommitted, IsUnplanned, LeavesKept, NeedsMore, ReleasesPart, ReleasesRest, StopsTurning, rest_of}
 use Rattle.solo_engine.specs.Keeping.{Kept, nothing, checkpoint, Covers, Keeps, KeepsOrHolds, IsPlan, epoch_after, other, target_after, used_by}
 use Rattle.solo_engine.specs.Known.{IsAfter, Knows, KnowsGates, gate_in}
-use Rattle.solo_engine.specs.Safe.{AreAcks, HoldsOne, IsUnwritten, KeepsLast, IsWhole, Released, Run, Safe, is_fetch, last_acked, run_of}
+use Rattle.solo_engine.specs.Safe.{AreAcks, HoldsOne, IsUnwritten, KeepsLast, IsWhole, Released, Run, Safe, last_acked, run_of}
 use Rattle.solo_engine.specs.declared.interval.Ready.{Ready}
 use Rattle.solo_engine.specs.declared.kept.KeptBlocks.{KeptBlocks}
 use Rattle.solo_engine.specs.declared.run.RunAnswer.{RunAnswer}

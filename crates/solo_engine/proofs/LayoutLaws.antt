@@ -27,7 +27,7 @@ use Rattle.solo_engine.specs.declared.plan.Page.{Page}
 use Rattle.solo_engine.proofs.FitsLaws.{few_between, record_fits}
 use Rattle.solo_engine.proofs.FinishedLaws.{IsRising, committed}
 use Rattle.solo_engine.proofs.Keeps.{committed_newest}
-use Rattle.solo_engine.proofs.Ordered.{IsOrdered, each_weaker, each_both, each_append, each_left, each_right, each_map, each_of_map, ordered_of_map, ordered_of_pairs}
+use Rattle.restore_group.proofs.Ordered.{IsOrdered, each_weaker, each_both, each_append, each_left, each_right, each_map, each_of_map, ordered_of_map, ordered_of_pairs}
 use Rattle.solo_engine.proofs.PageLaws.{pages_rise, pages_are_of}
 
 abbrev IsWhole : List ℕ → Type 0

@@ -1,5 +1,4 @@
 pub mod Keeps
-mod Ordered
 mod FinishedLaws
 mod PageLaws
 mod FitsLaws

@@ -5,7 +5,7 @@ use Rattle.rv64_isa.specs.declared.regs.Regs.{Regs}
 use Rattle.rv64_isa.specs.Instruction.{Effect, steps, calls, traps, instruction, is_step, list_of}
 use Rattle.rv64_isa.specs.Memory.{Cells, Write}
 use Rattle.group_defs.specs.declared.frame.Out.{Out}
-use Rattle.group_defs.specs.declared.maps.Mapping.{Mapping}
+use Rattle.address_maps.specs.declared.maps.Mapping.{Mapping}
 use Rattle.group_defs.specs.Cells.{cells_of, with_bytes, with_writes}
 use Rattle.group_defs.specs.Processes.{RunningValid, ProcValid}
 use Rattle.group_defs.specs.Step.{after_effect, do_step, is_local}

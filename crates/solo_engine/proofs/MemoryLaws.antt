@@ -9,13 +9,14 @@ use Rattle.rv64_isa.specs.Memory.{Write}
 use Rattle.rv64_isa.specs.Numbers.{bytes_of, wrapped}
 use Rattle.group_defs.specs.declared.frame.ObjectRec.{ObjectRec}
 use Rattle.group_defs.specs.declared.frame.Proc.{Proc}
-use Rattle.group_defs.specs.declared.maps.Mapping.{Mapping}
-use Rattle.group_defs.specs.Cells.{has, bytes_in, mapping_at, place_in, with_byte, with_byte_at, with_bytes, with_writes, AllInside}
+use Rattle.address_maps.specs.declared.maps.Mapping.{Mapping}
+use Rattle.address_maps.specs.Mappings.{has, mapping_at, end_of}
+use Rattle.group_defs.specs.Cells.{bytes_in, place_in, with_byte, with_byte_at, with_bytes, with_writes, AllInside}
 use Rattle.group_defs.specs.Group.{Group}
-use Rattle.group_defs.specs.Lists.{on_first}
-use Rattle.group_defs.specs.Mappings.{IsPlaced, IsInside, MappingsValid, end_of}
+use Rattle.tables.specs.Lists.{on_first}
+use Rattle.group_defs.specs.Mappings.{IsPlaced, IsInside, MappingsValid}
 use Rattle.group_defs.specs.Numbers.{AreBytes}
-use Rattle.group_defs.specs.Order.{Rise}
+use Rattle.tables.specs.Rising.{Rise}
 use Rattle.group_defs.specs.Sizes.{MemoryFits as FrameMemoryFits}
 use Rattle.group_defs.specs.Valid.{IsObject, GroupIsValid}
 use Rattle.solo_engine.specs.Memory.{MemoryFits, shape}

@@ -3,9 +3,8 @@ use Rattle.std.proofs.Common.{◌≡◌, ◌⊎◌, inl, inr, ℕ, zero, suc, �
 use Rattle.std.specs.Prelude.{nat_le}
 use Rattle.std.specs.List.Sorted.{IsPartitionedBy, IsPartitionPoint}
 use Rattle.std.proofs.lemmas.Bool.{cases_lt}
-use Rattle.group_defs.specs.declared.maps.Mapping.{Mapping}
-use Rattle.group_defs.specs.Cells.{has, mapping_at}
-use Rattle.group_defs.specs.Mappings.{AreApart, end_of}
+use Rattle.address_maps.specs.declared.maps.Mapping.{Mapping}
+use Rattle.address_maps.specs.Mappings.{has, mapping_at, AreApart, end_of}
 
 apart_tail : (m : Mapping) (ms : List Mapping) → AreApart (m ∷ ms) → AreApart ms
 unfolding AreApart

@@ -6,7 +6,7 @@ use Rattle.std.proofs.lemmas.List.{get_or-map, length-map, length-take-le, map-s
 use Rattle.std.proofs.lemmas.List.Elements.{All-append, All-take, All-drop, All-set}
 use Rattle.rv64_isa.specs.Memory.{bytes_with}
 use Rattle.rv64_isa.specs.Numbers.{has_bit}
-use Rattle.group_defs.specs.declared.maps.Mapping.{Mapping}
+use Rattle.address_maps.specs.declared.maps.Mapping.{Mapping}
 use Rattle.group_defs.specs.Cells.{cells_of, with_bytes}
 use Rattle.group_defs.specs.Numbers.{AreBytes}
 use Rattle.solo_engine.specs.declared.spot.Spot.{Spot}

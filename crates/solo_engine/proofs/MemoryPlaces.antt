@@ -7,8 +7,8 @@ use Rattle.std.specs.declared.vec.Vec.{Vec}
 use Rattle.std.proofs.lemmas.Bool.{cases_lt, cases_order}
 use Rattle.std.proofs.lemmas.List.{get_or-map, length-map, length-take-le, get_or-take, get_or_append_left, get_or-append_right, get_or_default}
 use Rattle.group_defs.specs.Cells.{bytes_in}
-use Rattle.group_defs.specs.Order.{Rise}
-use Rattle.group_defs.specs.declared.maps.Mapping.{Mapping}
+use Rattle.tables.specs.Rising.{Rise}
+use Rattle.address_maps.specs.declared.maps.Mapping.{Mapping}
 use Rattle.group_defs.specs.Mappings.{IsPlaced}
 use Rattle.solo_engine.specs.Memory.{ArePlaces, MemoryFits, memory_in}
 

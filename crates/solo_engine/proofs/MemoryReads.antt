@@ -5,10 +5,11 @@ use Rattle.std.specs.List.{find}
 use Rattle.std.specs.Option.{option_map}
 use Rattle.rv64_isa.specs.Memory.{Cell, Cells, both, byte_of, byte_with, bytes_with}
 use Rattle.rv64_isa.specs.Numbers.{has_bit, wrapped}
-use Rattle.group_defs.specs.declared.maps.Mapping.{Mapping}
-use Rattle.group_defs.specs.Cells.{bytes_in, cell_in, cells_of, has, mapping_at, place_in}
-use Rattle.group_defs.specs.Mappings.{AreApart, IsPlaced, end_of}
-use Rattle.group_defs.specs.Order.{Rise}
+use Rattle.address_maps.specs.declared.maps.Mapping.{Mapping}
+use Rattle.group_defs.specs.Cells.{bytes_in, cell_in, cells_of, place_in}
+use Rattle.address_maps.specs.Mappings.{has, mapping_at, AreApart, end_of}
+use Rattle.group_defs.specs.Mappings.{IsPlaced}
+use Rattle.tables.specs.Rising.{Rise}
 use Rattle.solo_engine.specs.declared.spot.Spot.{Spot}
 use Rattle.solo_engine.specs.Memory.{IsSpot, MemoryFits}
 

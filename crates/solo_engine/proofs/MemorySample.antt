@@ -1,11 +1,12 @@
 -- Three mappings of two objects fit.
 use Rattle.std.proofs.Common.{◌≡◌, ℕ, zero, suc, ◌+◌, ◌*◌, ◌<◌, ◌≤◌, false, List, [], ◌∷◌, length, take, replicate, ◌++◌, refl, sym, subst, All, arith}
 use Rattle.std.proofs.lemmas.List.Elements.{All-nil, All-cons, All-append, All-take, All-replicate}
-use Rattle.group_defs.specs.declared.maps.Mapping.{Mapping}
+use Rattle.address_maps.specs.declared.maps.Mapping.{Mapping}
 use Rattle.group_defs.specs.Cells.{bytes_in}
-use Rattle.group_defs.specs.Mappings.{AreApart, IsPlaced}
+use Rattle.address_maps.specs.Mappings.{AreApart}
+use Rattle.group_defs.specs.Mappings.{IsPlaced}
 use Rattle.group_defs.specs.Numbers.{AreBytes}
-use Rattle.group_defs.specs.Order.{Rise}
+use Rattle.tables.specs.Rising.{Rise}
 use Rattle.solo_engine.specs.Memory.{MemoryFits}
 
 abbrev pub private : ℕ → ℕ → ℕ → ℕ → ℕ → Mapping

@@ -3,9 +3,10 @@ use Rattle.std.proofs.Common.{◌≡◌, ℕ, ◌+◌, ◌-◌, ◌*◌, ◌^◌
 use Rattle.std.specs.List.Sorted.{IsPartitionPoint}
 use Rattle.std.proofs.lemmas.List.{get_or_default}
 use Rattle.std.proofs.lemmas.List.Elements.{All-get_or}
-use Rattle.group_defs.specs.declared.maps.Mapping.{Mapping}
-use Rattle.group_defs.specs.Cells.{bytes_in, has, mapping_at}
-use Rattle.group_defs.specs.Mappings.{IsPlaced, end_of}
+use Rattle.address_maps.specs.declared.maps.Mapping.{Mapping}
+use Rattle.group_defs.specs.Cells.{bytes_in}
+use Rattle.address_maps.specs.Mappings.{has, mapping_at, end_of}
+use Rattle.group_defs.specs.Mappings.{IsPlaced}
 use Rattle.solo_engine.specs.Memory.{ArePlaces, IsSpot, MemoryFits}
 use Rattle.solo_engine.proofs.MemoryMaps.{none_starts, last_starts, ended_before, only_at}
 use Rattle.solo_engine.proofs.MemoryReads.{bytes_at}

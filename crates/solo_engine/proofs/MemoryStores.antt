@@ -5,11 +5,12 @@ use Rattle.std.proofs.lemmas.List.{take_all}
 use Rattle.std.proofs.lemmas.List.Edits.{sets, sets-eq}
 use Rattle.rv64_isa.specs.Memory.{stored}
 use Rattle.rv64_isa.specs.Numbers.{wrapped}
-use Rattle.group_defs.specs.declared.maps.Mapping.{Mapping}
-use Rattle.group_defs.specs.Cells.{cells_of, has, mapping_at, place_in, with_byte, with_byte_at, with_bytes}
-use Rattle.group_defs.specs.Lists.{on_first}
-use Rattle.group_defs.specs.Mappings.{IsPlaced, end_of}
-use Rattle.group_defs.specs.Order.{Rise}
+use Rattle.address_maps.specs.declared.maps.Mapping.{Mapping}
+use Rattle.group_defs.specs.Cells.{cells_of, place_in, with_byte, with_byte_at, with_bytes}
+use Rattle.address_maps.specs.Mappings.{has, mapping_at, end_of}
+use Rattle.tables.specs.Lists.{on_first}
+use Rattle.group_defs.specs.Mappings.{IsPlaced}
+use Rattle.tables.specs.Rising.{Rise}
 use Rattle.solo_engine.specs.declared.spot.Spot.{Spot}
 use Rattle.solo_engine.specs.Memory.{IsSpot, MemoryFits}
 use Rattle.group_defs.proofs.Seen.{stored_bytes}

@@ -3,14 +3,14 @@ use Rattle.std.proofs.Common.{◌≡◌, ◌⊎◌, inl, inr, ℕ, suc, ◌+◌,
 use Rattle.std.specs.Prelude.{not, Any}
 use Rattle.std.specs.List.{flat_map, range_with_len, AllByRecursion}
 use Rattle.group_defs.specs.Group.{Group}
-use Rattle.group_defs.specs.Order.{Rise}
+use Rattle.tables.specs.Rising.{Rise}
 use Rattle.group_defs.specs.Touched.{all_pages, nonzero_pages, is_zero_page, pages_of as all_pages_of}
 use Rattle.group_defs.specs.Valid.{GroupIsValid}
 use Rattle.group_defs.specs.declared.frame.ObjectRec.{ObjectRec}
 use Rattle.ckpt_records.specs.Holds.{page_of}
 use Rattle.ckpt_records.specs.Spells.{IsPageOf, PagesRise, IsBefore}
 use Rattle.ckpt_records.specs.declared.meta.PagePlace.{PagePlace}
-use Rattle.solo_engine.proofs.Ordered.{IsOrdered, each_weaker, each_always, each_append, each_map, each_of_map, each_flat, each_filter, each_in_range, ordered_weaker, ordered_append, ordered_map, ordered_of_map, ordered_filter, ordered_range, ordered_of_pairs, pairs_of_ordered}
+use Rattle.restore_group.proofs.Ordered.{IsOrdered, each_weaker, each_always, each_append, each_map, each_of_map, each_flat, each_filter, each_in_range, ordered_weaker, ordered_append, ordered_map, ordered_of_map, ordered_filter, ordered_range, ordered_of_pairs, pairs_of_ordered}
 
 abbrev IsLower : ObjectRec → ObjectRec → Type 0
 IsLower a b = a.number < b.number

@@ -12,17 +12,18 @@ use Rattle.group_defs.specs.declared.frame.ObjectRec.{ObjectRec}
 use Rattle.group_defs.specs.declared.frame.Proc.{Proc}
 use Rattle.group_defs.specs.declared.frame.ProcState.TheVariants.{Running, Ended}
 use Rattle.group_defs.specs.declared.frame.ProcState.{ProcState}
-use Rattle.group_defs.specs.declared.maps.Mapping.{Mapping}
-use Rattle.group_defs.specs.declared.named_files.FileRec.{FileRec}
-use Rattle.group_defs.specs.declared.opens.Open.{Open}
-use Rattle.group_defs.specs.declared.streams.Pair.{Pair}
-use Rattle.group_defs.specs.declared.streams.Pipe.{Pipe}
+use Rattle.address_maps.specs.declared.maps.Mapping.{Mapping}
+use Rattle.group_files.specs.declared.named_files.FileRec.{FileRec}
+use Rattle.descriptors.specs.declared.opens.Open.{Open}
+use Rattle.pipes_socks.specs.declared.streams.Pair.{Pair}
+use Rattle.pipes_socks.specs.declared.streams.Pipe.{Pipe}
 use Rattle.group_defs.specs.Built.{IsAlone, OnlyBuilt}
 use Rattle.group_defs.specs.Descriptions.{DescriptionsValid, IsOwned, OpenValid}
 use Rattle.group_defs.specs.Group.{Group}
-use Rattle.group_defs.specs.Mappings.{AreApart, IsPlaced}
+use Rattle.address_maps.specs.Mappings.{AreApart}
+use Rattle.group_defs.specs.Mappings.{IsPlaced}
 use Rattle.group_defs.specs.Objects.{IsMemoryObject, IsPrivateObject, IsSharedObject, ObjectsValid, is_of_file, mappers}
-use Rattle.group_defs.specs.Order.{Rise}
+use Rattle.tables.specs.Rising.{Rise}
 use Rattle.group_defs.specs.Processes.{ProcValid, EndedValid, HasParent, StateValid}
 use Rattle.group_defs.specs.Sizes.{MemoryFits as FrameMemoryFits}
 use Rattle.group_defs.specs.Valid.{FrameValid, GroupIsValid}

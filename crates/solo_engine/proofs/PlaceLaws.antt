@@ -7,7 +7,7 @@ use Rattle.std.proofs.lemmas.List.Concat.{flat_map-append}
 use Rattle.std.proofs.lemmas.List.Elements.{filter-append}
 use Rattle.group_defs.specs.Group.{Group}
 use Rattle.group_defs.specs.Cells.{bytes_in}
-use Rattle.group_defs.specs.Order.{Rise}
+use Rattle.tables.specs.Rising.{Rise}
 use Rattle.group_defs.specs.Touched.{all_pages, nonzero_pages, page_bytes, is_zero_page, pages_of as all_pages_of}
 use Rattle.group_defs.specs.Valid.{GroupIsValid, IsObject}
 use Rattle.group_defs.specs.declared.frame.ObjectRec.{ObjectRec}
@@ -21,7 +21,7 @@ use Rattle.solo_engine.specs.Plans.{anywhere, metas_for, needs, place_of, ArePag
 use Rattle.solo_engine.specs.declared.kept.KeptBlocks.{KeptBlocks}
 use Rattle.solo_engine.specs.declared.plan.PlanRefused.TheVariants.{Full}
 use Rattle.solo_engine.specs.declared.plan.Page.{Page}
-use Rattle.solo_engine.proofs.Ordered.{IsOrdered, each_weaker, each_append, each_map, each_filter, each_in_range, ordered_of_pairs}
+use Rattle.restore_group.proofs.Ordered.{IsOrdered, each_weaker, each_append, each_map, each_filter, each_in_range, ordered_of_pairs}
 
 -- ---- the bytes of an object by its number
 

@@ -6,8 +6,9 @@ use Rattle.std.proofs.lemmas.List.Elements.{All-nil, All-cons}
 use Rattle.rv64_isa.specs.Memory.{Cell, Cells, both, byte_of, byte_with, bytes_with}
 use Rattle.rv64_isa.specs.Numbers.{has_bit, wrapped}
 use Rattle.group_defs.specs.declared.frame.ObjectRec.{ObjectRec}
-use Rattle.group_defs.specs.declared.maps.Mapping.{Mapping}
-use Rattle.group_defs.specs.Cells.{bytes_in, cell_in, cells_of, mapping_at, place_in}
+use Rattle.address_maps.specs.declared.maps.Mapping.{Mapping}
+use Rattle.group_defs.specs.Cells.{bytes_in, cell_in, cells_of, place_in}
+use Rattle.address_maps.specs.Mappings.{mapping_at}
 use Rattle.group_defs.specs.Numbers.{AreBytes}
 use Rattle.group_defs.specs.Valid.{IsObject}
 

@@ -12,16 +12,16 @@ use Rattle.dev_traits.specs.Outside.{SinkView, Takes}
 use Rattle.group_defs.specs.declared.run.AckMark.{AckMark}
 use Rattle.group_defs.specs.declared.run.Mark.{Mark}
 use Rattle.group_defs.specs.Group.{Group}
-use Rattle.group_defs.specs.Trace.{IsGroupOf, all_appended, group_after, is_barrier_of, mark_of, output}
+use Rattle.group_defs.specs.Trace.{IsGroupOf, all_appended, group_after, is_barrier_of, mark_of, output, acked_epoch}
 use Rattle.ckpt_chain.specs.Slot.{newest}
 use Rattle.ckpt_chain.specs.declared.slot.Slot.{Slot}
 use Rattle.ckpt_records.specs.Holds.{Holds, HoldsAt}
 use Rattle.ckpt_records.specs.declared.meta.PagePlace.{PagePlace}
-use Rattle.solo_engine.specs.Going.{acked_epoch, output_between}
+use Rattle.solo_engine.specs.Going.{output_between}
 use Rattle.solo_engine.specs.Keeping.{Kept, nothing, checkpoint, Keeps, KeepsOrHolds, epoch_after, target_after}
 use Rattle.solo_engine.specs.Safe.{Run, run_of, HoldsBarrier, HoldsOne, Safe, AreAcks, NeverFall, Released, last_epoch, last_acked, output_of}
 use Rattle.solo_engine.proofs.Between.{any_more, group_of_more}
-use Rattle.solo_engine.proofs.Ordered.{each_append, each_both, each_weaker}
+use Rattle.restore_group.proofs.Ordered.{each_append, each_both, each_weaker}
 use Rattle.solo_engine.proofs.Outputs.{between_front, between_joins, between_length, between_none, between_stays, output_more}
 use Rattle.solo_engine.proofs.Pieces.{takes_both}
 

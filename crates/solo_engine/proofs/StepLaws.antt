@@ -9,13 +9,14 @@ use Rattle.rv64_isa.specs.Memory.{Cells, private_cells, private_of}
 use Rattle.group_defs.specs.declared.frame.ObjectRec.{ObjectRec}
 use Rattle.group_defs.specs.declared.frame.Out.{Out}
 use Rattle.group_defs.specs.declared.frame.Proc.{Proc}
-use Rattle.group_defs.specs.declared.maps.Mapping.{Mapping}
-use Rattle.group_defs.specs.declared.opens.Open.{Open}
+use Rattle.address_maps.specs.declared.maps.Mapping.{Mapping}
+use Rattle.descriptors.specs.declared.opens.Open.{Open}
 use Rattle.group_defs.specs.Built.{IsAlone}
-use Rattle.group_defs.specs.Cells.{cell_in, cells_of, has, mapping_at}
+use Rattle.group_defs.specs.Cells.{cell_in, cells_of}
+use Rattle.address_maps.specs.Mappings.{has, mapping_at}
 use Rattle.group_defs.specs.Exit.{ended, with_left}
 use Rattle.group_defs.specs.Group.{Group, runner}
-use Rattle.group_defs.specs.Lists.{on_first}
+use Rattle.tables.specs.Lists.{on_first}
 use Rattle.group_defs.specs.Objects.{is_of_file}
 use Rattle.group_defs.specs.Step.{after_effect, continued, do_step, effect_in, is_local, is_local_at}
 use Rattle.solo_engine.specs.Engine.{running_process, running_group, ended_group, frame_with, IsRunnable}

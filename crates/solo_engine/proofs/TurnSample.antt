@@ -8,18 +8,22 @@ use Rattle.group_defs.specs.declared.frame.Frame.{Frame}
 use Rattle.group_defs.specs.declared.frame.Out.{Out}
 use Rattle.group_defs.specs.declared.frame.Proc.{Proc}
 use Rattle.group_defs.specs.declared.frame.ObjectRec.{ObjectRec}
-use Rattle.group_defs.specs.declared.maps.Mapping.{Mapping}
-use Rattle.group_defs.specs.declared.named_files.FileRec.{FileRec}
-use Rattle.group_defs.specs.declared.opens.Open.{Open}
-use Rattle.group_defs.specs.declared.opens.OpenKind.TheVariants.{Nothing, Outside}
-use Rattle.group_defs.specs.declared.streams.Pair.{Pair}
-use Rattle.group_defs.specs.declared.streams.Pipe.{Pipe}
+use Rattle.address_maps.specs.declared.maps.Mapping.{Mapping}
+use Rattle.group_files.specs.declared.named_files.FileRec.{FileRec}
+use Rattle.descriptors.specs.declared.opens.Open.{Open}
+use Rattle.descriptors.specs.declared.opens.OpenKind.TheVariants.{Nothing, Outside}
+use Rattle.pipes_socks.specs.declared.streams.Pair.{Pair}
+use Rattle.pipes_socks.specs.declared.streams.Pipe.{Pipe}
 use Rattle.group_defs.specs.Built.{IsAlone, IsPlain, OnlyBuilt}
 use Rattle.group_defs.specs.Descriptions.{Owns, IsOwned, IsOpen, DescriptorsValid, OpenValid, DescriptionsValid}
-use Rattle.group_defs.specs.Mappings.{end_of, IsPlaced, IsInside, AreApart, MappingsValid}
+use Rattle.address_maps.specs.Mappings.{end_of, AreApart}
+use Rattle.group_defs.specs.Mappings.{IsPlaced, IsInside, MappingsValid}
 use Rattle.group_defs.specs.Numbers.{AreBytes, RegsFit, NextFits, NumbersFit, NextIsAbove, NextValid}
 use Rattle.group_defs.specs.Objects.{is_of_file, maps_object, mappers, memory_objects, IsMappedAs, IsPrivateObject, IsMemoryObject, ObjectsValid}
-use Rattle.group_defs.specs.Order.{Rise, IsBefore, NamesRise, OwnListsRise, ListsRise}
+use Rattle.tables.specs.Rising.{Rise}
+use Rattle.group_files.specs.Names.{IsBefore}
+use Rattle.group_files.specs.Files.{NamesRise}
+use Rattle.group_defs.specs.Order.{OwnListsRise, ListsRise}
 use Rattle.group_defs.specs.Processes.{BreakValid, RunningValid, ProcValid}
 use Rattle.group_defs.specs.Sizes.{ProcFits, MemoryFits, WithinLimits}
 use Rattle.group_defs.specs.Streams.{StreamsValid}

@@ -9,8 +9,8 @@ use Rattle.group_defs.specs.Group.{Group}
 use Rattle.group_defs.specs.Legal.{ready}
 use Rattle.group_defs.specs.Output.{last_position}
 use Rattle.group_defs.specs.Turns.{IsTurn, turned}
-use Rattle.solo_engine.specs.Going.{acked_epoch}
 use Rattle.solo_engine.specs.Interval.{ComesToBarrier, HasTurned, IsDue, IsLonger, StopsTurning}
+use Rattle.group_defs.specs.Trace.{acked_epoch}
 use Rattle.solo_engine.proofs.Between.{takes_on, turns_on}
 
 -- ---- marks more

@@ -9,7 +9,7 @@ use Rattle.rv64_isa.specs.Registers.{a0, a1, a2, call_number}
 use Rattle.group_defs.specs.declared.frame.Next.{Next}
 use Rattle.group_defs.specs.declared.frame.Out.{Out}
 use Rattle.group_defs.specs.declared.frame.Proc.{Proc}
-use Rattle.group_defs.specs.declared.maps.Mapping.{Mapping}
+use Rattle.address_maps.specs.declared.maps.Mapping.{Mapping}
 use Rattle.group_defs.specs.Calls.{waits, refuses, answers, reply_map, ENOSYS}
 use Rattle.group_defs.specs.Cells.{cells_of}
 use Rattle.group_defs.specs.Exit.{exit}

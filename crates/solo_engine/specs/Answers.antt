@@ -11,13 +11,13 @@ use Rattle.group_defs.specs.Group.{Group}
 use Rattle.group_defs.specs.Legal.{Legal}
 use Rattle.group_defs.specs.Solo.{IsSoloPrefix}
 use Rattle.group_defs.specs.Touched.{nonzero_pages}
-use Rattle.group_defs.specs.Trace.{IsGroupOf, is_ack_of, is_fetch_of}
+use Rattle.group_defs.specs.Trace.{IsGroupOf, is_ack_of, is_fetch_of, is_fetch}
 use Rattle.block_alloc.specs.Free.{MayBeFree, free_count, is_free}
 use Rattle.ckpt_records.specs.Spelling.{record_bytes}
 use Rattle.ckpt_records.specs.declared.meta.PagePlace.{PagePlace}
 use Rattle.solo_engine.specs.Keeping.{Kept, Keeps, epoch_after, used_by}
 use Rattle.solo_engine.specs.Plans.{metas_for}
-use Rattle.solo_engine.specs.Safe.{Run, Safe, AreAcks, HoldsOne, KeepsLast, Released, IsUnwritten, IsWhole, is_fetch, last_group}
+use Rattle.solo_engine.specs.Safe.{Run, Safe, AreAcks, HoldsOne, KeepsLast, Released, IsUnwritten, IsWhole, last_group}
 use Rattle.solo_engine.specs.declared.run.RunAnswer.{RunAnswer}
 use Rattle.solo_engine.specs.declared.run.RunAnswer.TheVariants.{Done, Stuck, Spent, DiskFault, SinkFault, DiskFull, NoMemory}
 

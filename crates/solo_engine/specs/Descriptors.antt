@@ -1,8 +1,8 @@
 -- Descriptors at the outside.
 use Rattle.std.specs.Prelude.{Bool, true, false, Option, Some, None}
-use Rattle.group_defs.specs.declared.opens.Open.{Open}
-use Rattle.group_defs.specs.declared.opens.OpenKind.{OpenKind}
-use Rattle.group_defs.specs.declared.opens.OpenKind.TheVariants.{Nothing, Outside, File, PipeRead, PipeWrite, PairEnd}
+use Rattle.descriptors.specs.declared.opens.Open.{Open}
+use Rattle.descriptors.specs.declared.opens.OpenKind.{OpenKind}
+use Rattle.descriptors.specs.declared.opens.OpenKind.TheVariants.{Nothing, Outside, File, PipeRead, PipeWrite, PairEnd}
 
 abbrev pub is_outside : OpenKind → Bool
 is_outside Nothing = false

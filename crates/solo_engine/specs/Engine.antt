@@ -8,8 +8,8 @@ use Rattle.group_defs.specs.declared.frame.ObjectRec.{ObjectRec}
 use Rattle.group_defs.specs.declared.frame.Out.{Out}
 use Rattle.group_defs.specs.declared.frame.Proc.{Proc}
 use Rattle.group_defs.specs.declared.frame.ProcState.TheVariants.{Running}
-use Rattle.group_defs.specs.declared.maps.Mapping.{Mapping}
-use Rattle.group_defs.specs.declared.opens.Open.{Open}
+use Rattle.address_maps.specs.declared.maps.Mapping.{Mapping}
+use Rattle.descriptors.specs.declared.opens.Open.{Open}
 use Rattle.group_defs.specs.Built.{OnlyBuilt}
 use Rattle.group_defs.specs.Cells.{cells_of}
 use Rattle.group_defs.specs.Group.{Group}

@@ -41,17 +41,6 @@ fetched marks epoch = barred marks epoch ++ Fetch epoch ∷ []
 abbrev pub acknowledged : List Mark → ℕ → List Mark
 acknowledged marks epoch = fetched marks epoch ++ Ack epoch ∷ []
 
--- the epochs of a trace's acknowledgements, in their order
-abbrev pub acked_epoch : Mark → Option ℕ
-acked_epoch (Take worker pid) = None
-acked_epoch (Turn worker pid n) = None
-acked_epoch (Barrier epoch) = None
-acked_epoch (Fetch epoch) = None
-acked_epoch (Ack epoch) = Some epoch
-
-abbrev pub acked_epochs : List Mark → List ℕ
-acked_epochs marks = filter_map acked_epoch marks
-
 -- the output's bytes from one position up to another, in a run from this group
 abbrev pub output_between : ℕ → Group → List Mark → ℕ → ℕ → List ℕ
 output_between quantum start marks from to = drop (from - start.frame.out.from) (take (to - start.frame.out.from) (output quantum start marks))

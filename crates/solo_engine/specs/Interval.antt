@@ -17,14 +17,14 @@ use Rattle.group_defs.specs.Group.{Group}
 use Rattle.group_defs.specs.Legal.{ready}
 use Rattle.group_defs.specs.Output.{last_position}
 use Rattle.group_defs.specs.Solo.{IsSoloSoFar}
-use Rattle.group_defs.specs.Trace.{barrier}
+use Rattle.group_defs.specs.Trace.{barrier, acked_epoch}
 use Rattle.block_alloc.specs.Free.{MayBeFree, free_count, is_free}
 use Rattle.ckpt_records.specs.Holds.{IsCheckpointed}
 use Rattle.commit_gate.specs.Whole.{Reads, finished, numbers}
 use Rattle.commit_gate.specs.declared.whole.Block.{Block}
 use Rattle.ckpt_chain.specs.declared.slot.SlotBody.{SlotBody}
 use Rattle.solo_engine.specs.Answers.{cost_of}
-use Rattle.solo_engine.specs.Going.{StandsAt, acked_epoch}
+use Rattle.solo_engine.specs.Going.{StandsAt}
 use Rattle.solo_engine.specs.Keeping.{Kept, nothing, checkpoint, Keeps, KeepsOrHolds, IsPlan}
 use Rattle.solo_engine.specs.Known.{IsAfter, Knows}
 use Rattle.solo_engine.specs.declared.interval.Ready.{Ready}

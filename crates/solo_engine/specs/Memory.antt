@@ -3,11 +3,12 @@ use Rattle.std.specs.Prelude.{◌≡◌, ◌<◌, ◌≤◌, ◌+◌, ◌*◌, �
 use Rattle.std.proofs.Props.{props}
 use Rattle.std.specs.declared.alloc.Global.{Global}
 use Rattle.std.specs.declared.vec.Vec.{Vec}
-use Rattle.group_defs.specs.declared.maps.Mapping.{Mapping}
-use Rattle.group_defs.specs.Cells.{bytes_in, mapping_at, place_in}
-use Rattle.group_defs.specs.Mappings.{AreApart, IsPlaced, end_of}
+use Rattle.address_maps.specs.declared.maps.Mapping.{Mapping}
+use Rattle.group_defs.specs.Cells.{bytes_in, place_in}
+use Rattle.address_maps.specs.Mappings.{mapping_at, AreApart, end_of}
+use Rattle.group_defs.specs.Mappings.{IsPlaced}
 use Rattle.group_defs.specs.Numbers.{AreBytes}
-use Rattle.group_defs.specs.Order.{Rise}
+use Rattle.tables.specs.Rising.{Rise}
 use Rattle.solo_engine.specs.declared.spot.Spot.{Spot}
 
 -- objects as the flat table, each by its number

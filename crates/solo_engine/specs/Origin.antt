@@ -2,7 +2,8 @@
 use Rattle.std.specs.Prelude.{◌≡◌, ◌⊎◌, ◌<◌, ◌≤◌, ◌^◌, ℕ, List, [], ◌∷◌, length, map, slice_index, None}
 use Rattle.std.specs.List.{AllByRecursion}
 use Rattle.dev_traits.specs.Outside.{SinkView}
-use Rattle.group_defs.specs.declared.run.Limits.{Limits}
+use Rattle.group_defs.specs.declared.frame.Frame.{Frame}
+use Rattle.group_defs.specs.declared.frame.Out.{Out}
 use Rattle.group_defs.specs.Output.{last_position}
 use Rattle.group_defs.specs.Touched.{nonzero_pages}
 use Rattle.ckpt_chain.specs.Slot.{newest, gate_place}
@@ -16,12 +17,6 @@ use Rattle.restore_group.specs.Parts.{group_of, HasLayers}
 -- the number of blocks that a disk may have
 abbrev pub HasSize : ℕ → Type 0
 HasSize blocks = (16 ≤ blocks) × (blocks ≤ 1048576)
-
--- How many turns a run on one thread may have, how many steps a turn, and how many turns come before a barrier.
-pub record LimitsFit (limits : Limits) : Type 0 where
-  pub turns : (1 ≤ limits.turns) × (limits.turns ≤ 1000000)
-  pub quantum : (1 ≤ limits.quantum) × (limits.quantum ≤ 100000)
-  pub every : (1 ≤ limits.every) × (limits.every ≤ 10000)
 
 -- The origin of a new disk: a valid group without output, no block in use, and slot A is the next one.
 pub record IsNew (o : Origin) : Type 0 where
@@ -58,15 +53,15 @@ gates_of image = slice_index image (gate_place A) ∷ slice_index image (gate_pl
 abbrev pub IsOriginOf : List ℕ → Origin → Type 0
 IsOriginOf image o = ((1 ≤ o.epoch) × IsRestored image o) ⊎ ((o.epoch ≡ 0) × (newest image ≡ None) × (o.gates ≡ gates_of image))
 
--- Its numbers leave room for a run.
-pub record IsUnworn (o : Origin) : Type 0 where
-  pub epoch : o.epoch ≤ 2 ^ 62
-  pub output : last_position o.parts.frame.out ≤ 2 ^ 62
-  pub object : o.parts.frame.next.object ≤ 2 ^ 62
-  pub descr : o.parts.frame.next.descr ≤ 2 ^ 62
-  pub pipe : o.parts.frame.next.pipe ≤ 2 ^ 62
-  pub pair : o.parts.frame.next.pair ≤ 2 ^ 62
+-- Numbers that leave room for a run: the epoch, the last position of the output, and what comes next of each kind.
+pub record IsUnworn (epoch : ℕ) (f : Frame) : Type 0 where
+  pub epoch_is : epoch ≤ 2 ^ 62
+  pub output : last_position f.out ≤ 2 ^ 62
+  pub object : f.next.object ≤ 2 ^ 62
+  pub descr : f.next.descr ≤ 2 ^ 62
+  pub pipe : f.next.pipe ≤ 2 ^ 62
+  pub pair : f.next.pair ≤ 2 ^ 62
 
--- The output has what the origin's checkpoint says, or a part of it.
-abbrev pub IsWithin : SinkView → Origin → Type 0
-IsWithin out o = (o.parts.frame.out.from ≤ out.count) × (out.count ≤ last_position o.parts.frame.out)
+-- The sink has what a checkpoint's output says, or a part of it from the front.
+abbrev pub IsWithin : SinkView → Out → Type 0
+IsWithin sink out = (out.from ≤ sink.count) × (sink.count ≤ last_position out)

@@ -11,10 +11,10 @@ use Rattle.group_defs.specs.Ends.{IsSettled}
 use Rattle.group_defs.specs.Group.{Group}
 use Rattle.group_defs.specs.Output.{last_position}
 use Rattle.group_defs.specs.Solo.{IsSoloTrace}
-use Rattle.group_defs.specs.Trace.{IsGroupOf, group_after, is_barrier_of, mark_of}
+use Rattle.group_defs.specs.Trace.{IsGroupOf, group_after, is_barrier_of, mark_of, acked_epoch}
 use Rattle.ckpt_chain.specs.Slot.{newest}
 use Rattle.ckpt_records.specs.Holds.{Holds}
-use Rattle.solo_engine.specs.Going.{acked_epoch, output_between}
+use Rattle.solo_engine.specs.Going.{output_between}
 
 -- Nothing was written, and a stop since then leaves nothing that it couldn't leave before.
 pub record IsUnwritten (before after : DiskView) : Type 0 where
@@ -58,14 +58,6 @@ pub record Safe (run : Run) (opened_at : ℕ) (acks : List AckMark) (before afte
   pub opened : (image : List ℕ) → after.left opened_at image → HoldsOne run image
   -- since the call: that, or what a stop could have left before it
   pub entered : (image : List ℕ) → after.left before.moment image → LeftNow before image ⊎ HoldsOne run image
-
--- whether a mark is a fetch
-abbrev pub is_fetch : Mark → Bool
-is_fetch (Take worker pid) = false
-is_fetch (Turn worker pid n) = false
-is_fetch (Barrier epoch) = false
-is_fetch (Fetch epoch) = true
-is_fetch (Ack epoch) = false
 
 -- moments from one on that never fall, up to another
 abbrev pub NeverFall : ℕ → List AckMark → ℕ → Type 0

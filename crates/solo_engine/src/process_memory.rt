@@ -4,9 +4,9 @@ ghost use Rattle.std.specs.List.Sorted.{IsPartitionPoint};
 ghost use Rattle.std.specs.Option.{option_map};
 ghost use Rattle.rv64_isa.specs.Memory.{byte_with, bytes_with, readable};
 ghost use Rattle.rv64_isa.specs.Numbers.{number_of};
-ghost use Rattle.group_defs.specs.Cells.{bytes_in, cells_of, mapping_at, with_byte_at, with_bytes};
-ghost use Rattle.group_defs.specs.Mappings.{AreApart};
-ghost use Rattle.group_defs.specs.Order.{Rise};
+ghost use Rattle.group_defs.specs.Cells.{bytes_in, cells_of, with_byte_at, with_bytes};
+ghost use Rattle.address_maps.specs.Mappings.{mapping_at, AreApart};
+ghost use Rattle.tables.specs.Rising.{Rise};
 ghost use Rattle.solo_engine.specs.Memory.{ArePlaces, IsSpot, MemoryFits, MemoryFits-prop, memory_in};
 
 use crate::spot::Spot;
@@ -262,7 +262,7 @@ impl ProcessMemory {
 
 impl Space for ProcessMemory {
     ghost use Rattle.std.specs.Prelude.{ℕ, List};
-    ghost use Rattle.group_defs.specs.declared.maps.Mapping.{Mapping};
+    ghost use Rattle.address_maps.specs.declared.maps.Mapping.{Mapping};
     ghost use Rattle.group_defs.specs.Cells.{cells_of, with_bytes};
     ghost use Rattle.solo_engine.specs.Memory.{memory_in};
 

@@ -11,8 +11,9 @@ ghost use Rattle.solo_engine.specs.Engine.{group_in};
 ghost use Rattle.solo_engine.specs.Interval.{EndsIn, IsFirstKept, ReleasesPart, ReleasesRest};
 ghost use Rattle.solo_engine.specs.Keeping.{Keeps, Kept};
 ghost use Rattle.solo_engine.specs.Known.{IsKeptOf, Knows, KnowsGates};
-ghost use Rattle.solo_engine.specs.Origin.{HasSize, IsOrigin, IsOriginOf, IsUnworn, IsWithin, LimitsFit};
+ghost use Rattle.solo_engine.specs.Origin.{HasSize, IsOrigin, IsOriginOf, IsUnworn, IsWithin};
 ghost use Rattle.solo_engine.specs.Safe.{run_of};
+ghost use Rattle.group_defs.specs.Sizes.{LimitsFit};
 
 use crate::engine_group::EngineGroup;
 use crate::interval::{Engine, ready_commit, turn_to_fetch};
@@ -167,8 +168,8 @@ pub fn run_solo<D: Disk, O: Sink>(
     requires only { OnlyReading (D.view disk) }
     requires origin { IsOrigin (D.view disk).blocks origin }
     requires held { ForSome (D.view disk).reading (λ r. IsOriginOf r origin) }
-    requires unworn { IsUnworn origin }
-    requires count { IsWithin (O.view out) origin }
+    requires unworn { IsUnworn origin.epoch origin.parts.frame }
+    requires count { IsWithin (O.view out) origin.parts.frame.out }
     ensures { HasRun (run_of limits (group_of origin.parts) origin.epoch result.trace) result.acks (D.view disk) (D.view result.disk) (O.view out) (O.view result.out) result.answer }
 {
     let mut out = out;

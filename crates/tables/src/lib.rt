@@ -12,5 +12,5 @@ mod table;
 mod tests;
 
 pub use keyed::Keyed;
-pub use rising::{find_in, get_in, insert_in, place_in, remove_in};
+pub use rising::{find_in, get_in, insert_in, place_in, remove_in, rises};
 pub use table::Table;

@@ -1,4 +1,4 @@
-use crate::Table;
+use crate::{Table, rises};
 use std::test::Fail;
 
 #[test]
@@ -13,6 +13,7 @@ fn entries_are_found_by_number(rt: HostRuntime) -> Result<(), Fail> {
     }
     table.replace((7, 71));
     assert_eq!(rt; table.as_slice(), [(3, 30), (7, 71)].as_slice());
+    assert!(rt; rises(table.as_slice()));
     assert_eq!(rt; table.get(7).copied(), Some((7, 71)));
     assert_eq!(rt; table.get(4).copied(), None);
     assert_eq!(rt; table.len(), 2);

@@ -1,10 +1,10 @@
 use super::{frame_valid, rules_hold};
 use crate::frame::{Frame, Next, ObjectRec, Out, Proc, ProcState};
-use crate::maps::Mapping;
-use crate::named_files::FileRec;
-use crate::opens::{Open, OpenKind};
-use crate::streams::{Pair, Pipe};
+use address_maps::Mapping;
+use descriptors::{Open, OpenKind};
+use group_files::FileRec;
 use lists::Seq;
+use pipes_socks::{Pair, Pipe};
 use std::alloc::{AllocError, Global};
 use std::test::Fail;
 

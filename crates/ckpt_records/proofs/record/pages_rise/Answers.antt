@@ -3,7 +3,7 @@ use Rattle.std.specs.Prelude.{nat_lt, ◌||◌, ◌&&◌, ◌==◌}
 use Rattle.std.specs.Bool.{Decides}
 use Rattle.std.proofs.lemmas.Bool.Decides.{nat_tests}
 use Rattle.std.proofs.lemmas.List.Sorted.{answers_always}
-use Rattle.group_defs.proofs.Adjacent.{pairs_answered}
+use Rattle.tables.proofs.Adjacent.{pairs_answered}
 use Rattle.ckpt_records.specs.declared.meta.PagePlace.{PagePlace}
 use Rattle.ckpt_records.specs.Spells.{PagesRise, IsBefore}
 use Rattle.ckpt_records.proofs.record.pages_rise.Goals as goal

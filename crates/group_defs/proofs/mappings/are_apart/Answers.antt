@@ -1,8 +1,8 @@
 use Rattle.std.proofs.Common.{rules, tests, ◌≤◌, arith}
 use Rattle.std.specs.Prelude.{nat_le}
 use Rattle.std.proofs.lemmas.List.Sorted.{answers_always}
-use Rattle.group_defs.specs.Mappings.{AreApart, end_of}
-use Rattle.group_defs.proofs.Adjacent.{pairs_answered, Decides-leb}
+use Rattle.address_maps.specs.Mappings.{AreApart, end_of}
+use Rattle.tables.proofs.Adjacent.{pairs_answered, Decides-leb}
 use Rattle.group_defs.proofs.mappings.are_apart.Goals as goal
 
 pub returns : goal.returns

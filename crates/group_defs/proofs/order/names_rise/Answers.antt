@@ -3,8 +3,9 @@ use Rattle.std.specs.Cmp.Lexicographic.{slice_cmp}
 use Rattle.std.specs.Ordering.{nat_cmp, is_lt}
 use Rattle.std.proofs.lemmas.List.Sorted.{answers_always}
 use Rattle.std.proofs.lemmas.Cmp.{nat_list_cmp_total}
-use Rattle.group_defs.specs.Order.{NamesRise, IsBefore}
-use Rattle.group_defs.proofs.Adjacent.{pairs_answered, Decides-lt}
+use Rattle.group_files.specs.Files.{NamesRise}
+use Rattle.group_files.specs.Names.{IsBefore}
+use Rattle.tables.proofs.Adjacent.{pairs_answered, Decides-lt}
 use Rattle.group_defs.proofs.order.names_rise.Goals as goal
 
 pub returns : goal.returns

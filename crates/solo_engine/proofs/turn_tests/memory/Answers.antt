@@ -1,5 +1,5 @@
 use Rattle.std.proofs.Common.{ℕ, List, [], ◌∷◌, ◌++◌, ◌≡◌, ◌∙◌, ap, sym, subst₂, Vec, Global}
-use Rattle.group_defs.specs.declared.maps.Mapping.{Mapping}
+use Rattle.address_maps.specs.declared.maps.Mapping.{Mapping}
 use Rattle.solo_engine.specs.Memory.{MemoryFits, memory_in}
 use Rattle.solo_engine.proofs.TurnSample.{map_0, sample_fits}
 use Rattle.solo_engine.proofs.turn_tests.memory.Goals as goal

@@ -1,5 +1,5 @@
 use Rattle.std.proofs.Common.{ℕ, List, [], ◌∷◌, sym, subst}
-use Rattle.group_defs.specs.declared.maps.Mapping.{Mapping}
+use Rattle.address_maps.specs.declared.maps.Mapping.{Mapping}
 use Rattle.solo_engine.specs.Engine.{running_group, IsRunnable}
 use Rattle.solo_engine.specs.Memory.{memory_in}
 use Rattle.solo_engine.specs.declared.engine_group.Fixed.{Fixed}

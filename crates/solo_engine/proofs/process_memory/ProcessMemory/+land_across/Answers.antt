@@ -1,6 +1,6 @@
 use Rattle.std.proofs.Common.{List, ◌∙◌, ap, length, take, drop, ◌-◌, ◌+◌, arith}
 use Rattle.rv64_isa.specs.Numbers.{wrapped}
-use Rattle.group_defs.specs.declared.maps.Mapping.{Mapping}
+use Rattle.address_maps.specs.declared.maps.Mapping.{Mapping}
 use Rattle.group_defs.specs.Cells.{with_bytes}
 use Rattle.solo_engine.specs.Memory.{memory_in}
 use Rattle.solo_engine.proofs.MemoryStores.{nothing_stored, one_then}

@@ -1,6 +1,6 @@
 use Rattle.std.proofs.Common.{List, get_or, ◌+◌, ◌-◌, ◌*◌, ◌^◌, ◌<◌, arith, sym, subst, false}
-use Rattle.group_defs.specs.declared.maps.Mapping.{Mapping}
-use Rattle.group_defs.specs.Mappings.{AreApart}
+use Rattle.address_maps.specs.declared.maps.Mapping.{Mapping}
+use Rattle.address_maps.specs.Mappings.{AreApart}
 use Rattle.solo_engine.specs.Memory.{memory_in}
 use Rattle.solo_engine.proofs.MemorySpots.{none_before, starts, size_fits, none_after, first_fits, place_fits, is_spot}
 use Rattle.solo_engine.proofs.process_memory.ProcessMemory.spot_at.Goals as goal

@@ -1,6 +1,7 @@
 use Rattle.std.proofs.Common.{rules, [], ◌≡◌, ◌≤◌, ◌∙◌, IfNone, Option, None, sym, ap, subst, is_some, arith}
 use Rattle.rv64_isa.specs.Numbers.{bytes_of}
-use Rattle.group_defs.specs.Cells.{cells_of, mapping_at, with_bytes}
+use Rattle.group_defs.specs.Cells.{cells_of, with_bytes}
+use Rattle.address_maps.specs.Mappings.{mapping_at}
 use Rattle.solo_engine.specs.declared.spot.Spot.{Spot}
 use Rattle.solo_engine.specs.Memory.{memory_in}
 use Rattle.solo_engine.proofs.MemoryReads.{none_first, none_mapped, part_none, part_is}
