@@ -12,7 +12,7 @@ use Rattle.ckpt_chain.specs.Slot.{newest}
 use Rattle.ckpt_records.specs.declared.origin.Origin.{Origin}
 use Rattle.restore_group.specs.Parts.{group_of}
 use Rattle.solo_engine.specs.Answers.{EndsFor as RunEndsFor, HasRun as RunsSo, StandsSafe}
-use Rattle.solo_engine.specs.Safe.{AreAcks, HoldsOne, IsUnwritten, NeverFall, Run, Safe, last_epoch, run_of}
+use Rattle.solo_engine.specs.Safe.{AreAcks, HoldsOne, IsUnwritten, NeverFall, RunSoFar, Safe, last_epoch, run_of}
 use Rattle.solo_engine.specs.declared.run.RunAnswer.{RunAnswer}
 use Rattle.solo_engine.specs.declared.run.RunAnswer.TheVariants as answers
 use Rattle.aurora_top.specs.Answers.{EndsFor, HasRun, WasRun, flat_run}
@@ -33,7 +33,7 @@ rise_to from [] to fall = fall
 rise_to from (a ∷ acks) to fall = let rest = rise_to a.at acks to fall.1 in omega (arith, fall.0, rest)
 
 -- a run's disk is no earlier after it
-pub run_later : (run : Run) (acks : List AckMark) (disk disk' : DiskView) (out out' : SinkView) (answer : RunAnswer) → RunsSo run acks disk disk' out out' answer → disk.moment ≤ disk'.moment
+pub run_later : (run : RunSoFar) (acks : List AckMark) (disk disk' : DiskView) (out out' : SinkView) (answer : RunAnswer) → RunsSo run acks disk disk' out out' answer → disk.moment ≤ disk'.moment
 run_later run acks disk disk' out out' answer ran = rise_to disk.moment acks disk'.moment ran.stands.acked.moments
 
 -- why the run ended, with the numbers told

@@ -14,7 +14,7 @@ use Rattle.group_defs.specs.Output.{last_position}
 use Rattle.group_defs.specs.Solo.{IsSoloPrefix}
 use Rattle.group_defs.specs.Trace.{turns_in, is_fetch}
 use Rattle.solo_engine.specs.Answers.{IsDiskFull}
-use Rattle.solo_engine.specs.Safe.{AreAcks, IsUnwritten, IsWhole, KeepsLast, Released, Run, Safe, last_acked, last_group, run_of}
+use Rattle.solo_engine.specs.Safe.{AreAcks, IsUnwritten, IsWhole, KeepsLast, Released, RunSoFar, Safe, last_acked, last_group, run_of}
 use Rattle.aurora_top.specs.Boot.{flat_group}
 use Rattle.aurora_top.specs.Refusals.{Refused, Runs}
 use Rattle.aurora_top.specs.declared.end.End.{End}
@@ -30,7 +30,7 @@ pub record WasRefused (words : List (List ℕ)) (disk disk' : DiskView) (files f
 
 -- The run ended by itself: its trace is whole, the output has everything, and the numbers told are the last acknowledged
 -- epoch, the turns, and the last position.
-pub record EndsWith (run : Run) (acks : List AckMark) (out : SinkView) (epoch turns last : ℕ) : Type 0 where
+pub record EndsWith (run : RunSoFar) (acks : List AckMark) (out : SinkView) (epoch turns last : ℕ) : Type 0 where
   pub whole : IsWhole run out
   pub epoch_is : epoch ≡ last_acked run acks
   pub turns_is : turns ≡ turns_in run.trace
@@ -38,7 +38,7 @@ pub record EndsWith (run : Run) (acks : List AckMark) (out : SinkView) (epoch tu
 
 -- Why a run ended: by itself, as the definitions of ends say; a fault only where that device's count rose; a full disk. Want
 -- of memory is open.
-abbrev pub EndsFor : Run → List AckMark → DiskView → DiskView → SinkView → SinkView → End → Type 0
+abbrev pub EndsFor : RunSoFar → List AckMark → DiskView → DiskView → SinkView → SinkView → End → Type 0
 EndsFor run acks disk disk' out out' (Done epoch turns output) = EndsWith run acks out' epoch turns output × IsDone (last_group run)
 EndsFor run acks disk disk' out out' (Stuck epoch turns output) = EndsWith run acks out' epoch turns output × IsStuck (last_group run)
 EndsFor run acks disk disk' out out' (Spent epoch turns output) = EndsWith run acks out' epoch turns output × IsSpent run.limits run.trace (last_group run)
@@ -61,7 +61,7 @@ abbrev pub usual_limits : Limits
 usual_limits = record { turns = 8; quantum = 1000; every = 8; workers = 0; flushers = 1 }
 
 -- a run on a new disk of the image's process, with these limits and this trace
-abbrev pub flat_run : Limits → List ℕ → List Mark → Run
+abbrev pub flat_run : Limits → List ℕ → List Mark → RunSoFar
 flat_run limits image trace = run_of limits (flat_group image) 0 trace
 
 -- The command was run: the run of this image with these limits, whose trace is legal.

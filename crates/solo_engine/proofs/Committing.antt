@@ -13,7 +13,7 @@ use Rattle.ckpt_records.specs.Holds.{HoldsAt}
 use Rattle.commit_gate.specs.Whole.{IsDuring, IsPlaced, IsUnfinished, finished}
 use Rattle.commit_gate.specs.declared.whole.Block.{Block}
 use Rattle.solo_engine.specs.Interval.{IsReady, LeavesKept}
-use Rattle.solo_engine.specs.Keeping.{Covers, IsSoundAfter, Keeps, KeepsOrHolds, Kept, epoch_after, target_after}
+use Rattle.solo_engine.specs.Keeping.{Covers, Keeps, KeepsOrHolds, Kept, epoch_after, target_after}
 use Rattle.solo_engine.specs.Known.{Knows, KnowsGates, gate_in}
 use Rattle.solo_engine.specs.declared.interval.Ready.{Ready}
 use Rattle.solo_engine.specs.declared.kept.KeptBlocks.{KeptBlocks}
@@ -23,18 +23,15 @@ module _ (count : ℕ) (g : Group) (k : KeptBlocks) (r : Ready) (is : IsReady co
   covers : Covers k.used.items kept
   covers b has = (knows.used b).1 has
 
-  pub sound_after : IsSoundAfter count kept g r.plan.blocks r.plan.body
-  sound_after image size keeps = (
-    is.plan.pages,
-    is.plan.metas,
-    subst (λ (e : ℕ). HoldsAt (finished (target_after kept) r.plan.blocks r.plan.body image) e g is.plan.pages is.plan.metas (target_after kept)) (sym knows.epoch)
-        (is.plan.sound kept covers (sym knows.epoch) image size keeps),
-  )
+  holds_after : (image : List ℕ) → length image ≡ 4096 * count → Keeps image kept → HoldsAt (finished (target_after kept) r.plan.blocks r.plan.body image) (epoch_after kept) g is.plan.pages is.plan.metas (target_after kept)
+  holds_after image size keeps =
+      subst (λ (e : ℕ). HoldsAt (finished (target_after kept) r.plan.blocks r.plan.body image) e g is.plan.pages is.plan.metas (target_after kept)) (sym knows.epoch)
+      (is.plan.sound kept covers (sym knows.epoch) image size keeps)
 
   during_kept : (bytes image : List ℕ) → length bytes ≡ 4096 * count → Keeps bytes kept → IsUnfinished k.target r.plan.blocks bytes image ⊎ (image ≡ finished k.target r.plan.blocks r.plan.body bytes) → KeepsOrHolds kept g image
   during_kept bytes image size keeps either =
       let P : Slot → Type 0 = λ t. IsUnfinished t r.plan.blocks bytes image ⊎ (image ≡ finished t r.plan.blocks r.plan.body bytes) in
-      keeps_or_holds count kept g r.plan.blocks r.plan.body bytes image size keeps (is.plan.avoids kept covers) sound_after (subst P (sym knows.target) either)
+      keeps_or_holds count kept g is.plan.pages is.plan.metas r.plan.blocks r.plan.body bytes image size keeps (is.plan.avoids kept covers) (holds_after bytes size keeps) (subst P (sym knows.target) either)
 
 pub leaves_kept : (count : ℕ) (g : Group) (k : KeptBlocks) (r : Ready) (disk disk' : DiskView) → IsReady count g k r → ((bytes : List ℕ) → disk.reading ≡ Some bytes → length bytes ≡ 4096 * count)
     → LeavesOnly disk disk' (IsDuring k.target r.plan.blocks r.plan.body disk.reading) → LeavesKept k g disk disk'

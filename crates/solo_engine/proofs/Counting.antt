@@ -10,9 +10,9 @@ use Rattle.block_alloc.specs.Free.{is_free, free_count, with_used}
 use Rattle.ckpt_records.specs.Codec.{number, counted}
 use Rattle.ckpt_records.specs.Spelling.{page_place, proc, front, middle, record_bytes}
 use Rattle.ckpt_records.specs.declared.meta.PagePlace.{PagePlace}
-use Rattle.solo_engine.specs.Plans.{anywhere, placed}
+use Rattle.solo_engine.specs.Plans.{place_of, placed, unplaced}
 use Rattle.solo_engine.specs.declared.plan.Page.{Page}
-use Rattle.solo_engine.proofs.LayoutLaws.{length_placed}
+use Rattle.solo_engine.proofs.Laying.{length_placed}
 
 -- ---- free blocks
 
@@ -57,5 +57,5 @@ record_size f ps qs same =
     same_behind (front f) _ _ (same_behind (middle f) _ _ (same_behind (counted proc f.procs) _ _ (places_size ps ∙ ap (λ n. 8 + 24 * n) same ∙ sym (places_size qs))))
 
 -- a record's length is the same wherever its pages lie
-pub size_anywhere : (f : Frame) (pages : List Page) (blocks : List ℕ) → length blocks ≡ length pages → length (record_bytes f (placed pages blocks)) ≡ length (record_bytes f (map anywhere pages))
-size_anywhere f pages blocks enough = record_size f (placed pages blocks) (map anywhere pages) (length_placed pages blocks enough ∙ enough ∙ sym (length-map pages anywhere))
+pub size_anywhere : (f : Frame) (pages : List Page) (blocks : List ℕ) → length blocks ≡ length pages → length (record_bytes f (placed pages blocks)) ≡ length (record_bytes f (map unplaced (map place_of pages)))
+size_anywhere f pages blocks enough = record_size f (placed pages blocks) (map unplaced (map place_of pages)) (length_placed pages blocks enough ∙ enough ∙ sym (length-map (map place_of pages) unplaced ∙ length-map pages place_of))

@@ -21,7 +21,6 @@ use Rattle.group_defs.specs.Output.{last_position}
 use Rattle.group_defs.specs.Solo.{IsSoloSoFar, IsSoloTrace}
 use Rattle.group_defs.specs.Trace.{IsGroupOf, barrier, group_after, is_ack_of, is_barrier_of, is_fetch_of, group_of, mark_of, output, acked_epoch, is_fetch}
 use Rattle.group_defs.specs.Valid.{OutValid}
-use Rattle.block_alloc.specs.Free.{MayBeFree}
 use Rattle.ckpt_chain.specs.Chain.{Has}
 use Rattle.ckpt_chain.specs.Slot.{gate_place, newest}
 use Rattle.ckpt_chain.specs.declared.slot.Slot.{Slot}
@@ -29,21 +28,24 @@ use Rattle.ckpt_chain.specs.declared.slot.SlotBody.{SlotBody}
 use Rattle.ckpt_records.specs.Holds.{Holds, HoldsAt, IsCheckpointed, block_numbers}
 use Rattle.commit_gate.specs.Whole.{IsPlaced, Reads, finished, numbers}
 use Rattle.commit_gate.specs.declared.whole.Block.{Block}
-use Rattle.solo_engine.specs.Answers.{EndsFor, HasFree, HasRun, IsDiskFull, StandsSafe, cost_of}
+use Rattle.solo_engine.specs.Answers.{EndsFor, HasFree, HasRun, IsDiskFull, StandsSafe, writes_allowed}
 use Rattle.solo_engine.specs.Going.{StandsAt, fetched, acknowledged, output_between}
 use Rattle.solo_engine.specs.Interval.{EndsIn, IsCommitted, IsDue, IsFetched, IsFirstKept, IsLonger, IsReady, IsUncommitted, IsUnplanned, LeavesKept, NeedsMore, ReleasesPart, ReleasesRest, StopsTurning, rest_of}
 use Rattle.solo_engine.specs.Keeping.{Kept, nothing, checkpoint, Covers, Keeps, KeepsOrHolds, IsPlan, epoch_after, other, target_after, used_by}
 use Rattle.solo_engine.specs.Known.{IsAfter, Knows, KnowsGates, gate_in}
-use Rattle.solo_engine.specs.Safe.{AreAcks, HoldsOne, IsUnwritten, KeepsLast, IsWhole, Released, Run, Safe, last_acked, run_of}
+use Rattle.solo_engine.specs.Plans.{calls_for, free_blocks}
+use Rattle.solo_engine.specs.Safe.{AreAcks, HoldsOne, IsUnwritten, KeepsLast, IsWhole, Released, RunSoFar, Safe, last_acked, run_of}
 use Rattle.solo_engine.specs.declared.interval.Ready.{Ready}
 use Rattle.solo_engine.specs.declared.kept.KeptBlocks.{KeptBlocks}
 use Rattle.solo_engine.specs.declared.run.RunAnswer.{RunAnswer}
 use Rattle.solo_engine.specs.declared.run.RunAnswer.TheVariants.{Done, Stuck, Spent, DiskFault, SinkFault, DiskFull, NoMemory}
 use Rattle.solo_engine.proofs.Between.{any_more, barrier_found, barrier_made_on, begins, ends_done, ends_spent, ends_stuck, fetched_on, goes_on, group_of_barrier, group_of_more, group_of_origin, last_spent, settled}
+use Rattle.solo_engine.proofs.FreeLaws.{same_free}
 use Rattle.solo_engine.proofs.GateLaws.{gates_after}
 use Rattle.solo_engine.proofs.Outputs.{barrier_reaches, between_none, last_is, mark_above, mark_below, mark_of_group, released as released_piece, start_released}
 use Rattle.solo_engine.proofs.Pieces.{takes_none}
 use Rattle.solo_engine.proofs.Standing.{IsCommitting, IsKeptAt, IsKeptBy, Reached, acks_below, acks_later, acks_longer, acks_more, first_before, kept_acked, kept_longer, longer, one_during, one_longer, reached_longer, reached_more, released, safe_acked, safe_during, safe_longer}
+use Rattle.solo_engine.proofs.WriteLaws.{allowed_fetched, allowed_longer}
 
 -- what a run needs of its start and its limits
 pub record IsStart (limits : Limits) (start : Group) (origin : ℕ) : Type 0 where
@@ -97,22 +99,6 @@ module _ (limits : Limits) (start : Group) (origin : ℕ) (s : IsStart limits st
     ends = ends;
   }
 
--- a block that may be free of those in use may be free of what is kept
-may_be : (count blocks : ℕ) (k : KeptBlocks) (kept : Kept) → count ≡ blocks → Knows k kept → (b : ℕ) {X : Type 0} → X ↔ MayBeFree count k.used.items b → X ↔ MayBeFree blocks (used_by kept) b
-may_be count blocks k kept same knows b either = (
-  (λ x. let m = either.0 x in record { least = m.least; most = omega (arith, m.most, same); unused = free_of (used_by kept) b (λ has. not_has k.used.items b m.unused ((knows.used b).1 has)) }),
-  (λ m. either.1 (record { least = m.least; most = omega (arith, m.most, same); unused = free_of k.used.items b (λ has. not_has (used_by kept) b m.unused ((knows.used b).0 has)) })),
-)
-  where
-    not_has : (used : List ℕ) (b : ℕ) → AllByRecursion (λ u. u ≢ b) used → Has b used → ⊥
-    not_has [] b all has = has
-    not_has (u ∷ used) b all (inl e) = all.0 e
-    not_has (u ∷ used) b all (inr has) = not_has used b all.1 has
-
-    free_of : (used : List ℕ) (b : ℕ) → (Has b used → ⊥) → AllByRecursion (λ u. u ≢ b) used
-    free_of [] b none = tt
-    free_of (u ∷ used) b none = ((λ e. none (inl e)), free_of used b (λ has. none (inr has)))
-
 -- ---- the trace grows, and neither the disk nor the output changes
 
 any_false : (p : Mark → Bool) (a b : List Mark) → list_any p (a ++ b) ≡ false → list_any p a ≡ false
@@ -122,10 +108,11 @@ any_false p a b none = either (list_any p a) (list_any p b) (sym (list_any-appen
     either true y e = absurd (cc)
     either false y e = refl
 
-stands_longer : (run : Run) (more : List Mark) (acks : List AckMark) (disk0 disk : DiskView) (out0 out : SinkView) → filter_map acked_epoch more ≡ [] → StandsSafe run acks disk0 disk out0 out
+stands_longer : (run : RunSoFar) (more : List Mark) (acks : List AckMark) (disk0 disk : DiskView) (out0 out : SinkView) → filter_map acked_epoch more ≡ [] → StandsSafe run acks disk0 disk out0 out
     → Released (longer run more) acks out0 out → StandsSafe (longer run more) acks disk0 disk out0 out
 stands_longer run more acks disk0 disk out0 out none s r = record {
   blocks = s.blocks;
+  writes = omega (arith, s.writes, allowed_longer run more);
   safe = λ told is. safe_longer run more disk0.moment acks disk0 disk (s.safe told is);
   earlier = λ told is t image le left. ⊎_elim (λ before. inl before) (λ one. inr (one_longer run more image one)) (s.earlier told is t image le left);
   acked = acks_longer run more disk0.moment acks disk0 disk none s.acked;
@@ -135,7 +122,7 @@ stands_longer run more acks disk0 disk out0 out none s r = record {
 
 module _ (limits : Limits) (start : Group) (origin : ℕ) (s : IsStart limits start origin) (disk0 : DiskView) (out0 : SinkView) (g : Group) (k : KeptBlocks) (made : ℕ) (trace : List Mark) (acks : List AckMark) (disk : DiskView) (out : SinkView)
     (going : IsGoing limits start origin disk0 out0 g k made trace acks disk out) where
-  run : Run
+  run : RunSoFar
   run = run_of limits start origin trace
 
   -- the last acknowledged group's mark, also with more marks behind
@@ -199,7 +186,7 @@ module _ (limits : Limits) (start : Group) (origin : ℕ) (s : IsStart limits st
     unfolding behind
     unacked = filter_map-append acked_epoch f.comes.turned.longer.more (Barrier (k.epoch + 1) ∷ Fetch (k.epoch + 1) ∷ []) ∙ ap (λ (l : List ℕ). l ++ []) f.comes.turned.longer.unacked
 
-    run' : Run
+    run' : RunSoFar
     run' = run_of limits start origin trace'
 
     pub stands_fetched : StandsSafe (run_of limits start origin trace') acks disk0 disk out0 out
@@ -239,6 +226,14 @@ module _ (limits : Limits) (start : Group) (origin : ℕ) (s : IsStart limits st
         ap (list_any (is_barrier_of (k.epoch + 1))) (f.trace_is ∙ append_assoc f.marks (Barrier (k.epoch + 1) ∷ []) (Fetch (k.epoch + 1) ∷ []))
         ∙ barrier_found f.marks (Fetch (k.epoch + 1) ∷ []) (k.epoch + 1)
 
+    -- the fetch allows the writes of its commit
+    allowed : writes_allowed (run_of limits start origin trace) + calls_for g' ≤ writes_allowed (run_of limits start origin trace')
+    unfolding behind
+    allowed =
+        let more = f.comes.turned.longer.more in
+        let is : IsGroupOf limits.quantum start origin (trace ++ (more ++ Barrier (k.epoch + 1) ∷ Fetch (k.epoch + 1) ∷ [])) (k.epoch + 1) g' = subst (λ (t : List Mark). IsGroupOf limits.quantum start origin t (k.epoch + 1) g') trace_is group_at in
+        subst (λ (t : List Mark). writes_allowed (run_of limits start origin trace) + calls_for g' ≤ writes_allowed (run_of limits start origin t)) (sym trace_is) (allowed_fetched (run_of limits start origin trace) more (k.epoch + 1) g' is)
+
     committing : IsCommitting (run_of limits start origin trace') (k.epoch + 1) g'
     committing = record { barrier = barrier_there; group_is = group_at }
 
@@ -256,9 +251,7 @@ module _ (limits : Limits) (start : Group) (origin : ℕ) (s : IsStart limits st
             kept = going.kept;
             keeps = going.keeps r told;
             next = going.knows.epoch;
-            flags = u.flags;
-            flags_are = λ b. may_be count disk.blocks k going.kept same going.knows b (u.flags_are b);
-            free_is = u.free_is;
+            free_is = u.free_is ∙ ap (λ (n : ℕ). free_blocks n k.used.items) same ∙ same_free disk.blocks k.used.items (used_by going.kept) going.knows.used;
           };
           too_few = u.too_few;
         })
@@ -280,9 +273,10 @@ module _ (limits : Limits) (start : Group) (origin : ℕ) (s : IsStart limits st
       committing_kept : IsCommitting (run_of limits start origin trace') (epoch_after going.kept) g'
       committing_kept = subst (λ (e : ℕ). IsCommitting (run_of limits start origin trace') e g') (sym going.knows.epoch) committing
 
-      stands_written : (disk' : DiskView) → LeavesKept k g' disk disk' → disk.moment ≤ disk'.moment → disk'.blocks ≡ disk.blocks → StandsSafe (run_of limits start origin trace') acks disk0 disk' out0 out
-      stands_written disk' leaves later blocks = record {
+      stands_written : (disk' : DiskView) → LeavesKept k g' disk disk' → disk.moment ≤ disk'.moment → disk'.blocks ≡ disk.blocks → disk'.writes ≤ disk.writes + calls_for g' → StandsSafe (run_of limits start origin trace') acks disk0 disk' out0 out
+      stands_written disk' leaves later blocks writes = record {
         blocks = blocks ∙ stands_fetched.blocks;
+        writes = omega (arith, writes, going.safe.writes, allowed);
         safe = λ r told. safe_during (run_of limits start origin trace') acks disk0 disk disk' disk0.moment (stands_fetched.safe r told) stands_fetched.acked going.kept kept_on g' committing_kept (during disk' leaves r told);
         earlier = λ r told t image le left.
             let lasted = first_before disk0.moment disk.moment acks stands_fetched.acked.moments in
@@ -301,7 +295,7 @@ module _ (limits : Limits) (start : Group) (origin : ℕ) (s : IsStart limits st
 
       -- the commit failed
       pub uncommitted : (disk' : DiskView) → IsUncommitted k g' disk disk' → HasRun (run_of limits start origin trace') acks disk0 disk' out0 out DiskFault
-      uncommitted disk' u = prefix_of limits start origin s trace' so_far acks disk0 disk' out0 out DiskFault (stands_written disk' u.leaves u.later u.blocks) (λ other. absurd (other refl)) (rose_later disk0.faults disk.faults disk'.faults going.disk_faults u.rose)
+      uncommitted disk' u = prefix_of limits start origin s trace' so_far acks disk0 disk' out0 out DiskFault (stands_written disk' u.leaves u.later u.blocks u.writes) (λ other. absurd (other refl)) (rose_later disk0.faults disk.faults disk'.faults going.disk_faults u.rose)
 
       -- ---- it was acknowledged
       module _ (disk' : DiskView) (trace'' : List Mark) (acks' : List AckMark) (size : (r : List ℕ) → disk.reading ≡ Some r → length r ≡ 4096 * disk.blocks)
@@ -356,11 +350,12 @@ module _ (limits : Limits) (start : Group) (origin : ℕ) (s : IsStart limits st
 
         stands_acked : (out' : SinkView) → Released (run_of limits start origin trace'') acks' out0 out' → StandsSafe (run_of limits start origin trace'') acks' disk0 disk' out0 out'
         stands_acked out' r =
-            let w = stands_written disk' done.leaves done.later done.blocks in
+            let w = stands_written disk' done.leaves done.later done.blocks done.writes in
             let acked : AckMark = record { epoch = k.epoch + 1; at = disk'.moment } in
             let P : List Mark → List AckMark → Type 0 = λ t a. Released (run_of limits start origin t) a out0 out' → StandsSafe (run_of limits start origin t) a disk0 disk' out0 out' in
             let made : P (trace' ++ Ack (k.epoch + 1) ∷ []) (acks ++ acked ∷ []) = λ r. record {
               blocks = w.blocks;
+              writes = omega (arith, w.writes, allowed_longer (run_of limits start origin trace') (Ack (k.epoch + 1) ∷ []));
               safe = λ b told. safe_acked (run_of limits start origin trace') (Ack (k.epoch + 1) ∷ []) (k.epoch + 1) disk0.moment acks disk0 disk' g' (w.safe b told) committing (held_now b told);
               earlier = λ b told t image le left. ⊎_elim (λ before. inl before) (λ one. inr (one_longer (run_of limits start origin trace') (Ack (k.epoch + 1) ∷ []) image one)) (w.earlier b told t image le left);
               acked = acks_more (run_of limits start origin trace') (Ack (k.epoch + 1) ∷ []) (k.epoch + 1) disk0.moment acks disk0 disk disk' done.later one_ack stands_fetched.acked;
@@ -516,7 +511,7 @@ module _ (limits : Limits) (start : Group) (origin : ℕ) (s : IsStart limits st
 module _ (limits : Limits) (start : Group) (epoch : ℕ) (s : IsStart limits start epoch) (disk : DiskView) (out : SinkView) (only : OnlyReading disk)
     (kept : Kept) (next : epoch_after kept ≡ epoch + 1) (first : IsFirstKept start kept) (keeps : ForSome disk.reading (λ r. Keeps r kept))
     (least : start.frame.out.from ≤ out.count) (most : out.count ≤ last_position start.frame.out) where
-  run0 : Run
+  run0 : RunSoFar
   run0 = run_of limits start epoch []
 
   kept_first : (kept : Kept) → epoch_after kept ≡ epoch + 1 → IsFirstKept start kept → IsKeptBy (run_of limits start epoch []) [] kept
@@ -565,6 +560,7 @@ module _ (limits : Limits) (start : Group) (epoch : ℕ) (s : IsStart limits sta
   stands_first : (out' : SinkView) → Released (run_of limits start epoch []) [] out out' → StandsSafe (run_of limits start epoch []) [] disk disk out out'
   stands_first out' r = record {
     blocks = refl;
+    writes = omega arith;
     safe = λ b told. record {
       acknowledged = tt;
       opened = λ image left. one_now b told image left;

@@ -22,7 +22,7 @@ use Rattle.commit_gate.proofs.Finished.{unfinished_other, finished_slot, finishe
 use Rattle.commit_gate.specs.Commit.{block_range}
 use Rattle.commit_gate.specs.Whole.{IsPlaced, IsUnfinished, numbers, finished}
 use Rattle.commit_gate.specs.declared.whole.Block.{Block}
-use Rattle.solo_engine.specs.Keeping.{Kept, nothing, checkpoint, Keeps, Avoids, IsSoundAfter, KeepsOrHolds, target_after, epoch_after, used_by, other}
+use Rattle.solo_engine.specs.Keeping.{Kept, nothing, checkpoint, Keeps, Avoids, KeepsOrHolds, target_after, epoch_after, used_by, other}
 
 -- ---- the newest slot
 
@@ -195,12 +195,12 @@ module _ (count : ℕ) (blocks : List Block) (r image : List ℕ) (size : length
 pub keeps_unfinished : (count : ℕ) (kept : Kept) (blocks : List Block) (r image : List ℕ) → length r ≡ 4096 * count → Keeps r kept → Avoids count kept blocks → IsUnfinished (target_after kept) blocks r image → Keeps image kept
 keeps_unfinished count kept blocks r image size keeps avoids un = unfinished_keeps count blocks r image size avoids.placed kept keeps avoids.free un
 
-pub keeps_or_holds : (count : ℕ) (kept : Kept) (h : Group) (blocks : List Block) (body : SlotBody) (r image : List ℕ) → length r ≡ 4096 * count → Keeps r kept → Avoids count kept blocks → IsSoundAfter count kept h blocks body
+pub keeps_or_holds : (count : ℕ) (kept : Kept) (h : Group) (pages : List PagePlace) (metas : List ℕ) (blocks : List Block) (body : SlotBody) (r image : List ℕ) → length r ≡ 4096 * count → Keeps r kept → Avoids count kept blocks
+    → HoldsAt (finished (target_after kept) blocks body r) (epoch_after kept) h pages metas (target_after kept)
     → IsUnfinished (target_after kept) blocks r image ⊎ (image ≡ finished (target_after kept) blocks body r) → KeepsOrHolds kept h image
-keeps_or_holds count kept h blocks body r image size keeps avoids sound (inl un) = inl (keeps_unfinished count kept blocks r image size keeps avoids un)
-keeps_or_holds count kept h blocks body r image size keeps avoids sound (inr done) =
-    let P : List ℕ → Type 0 = λ x. (pages : List PagePlace) × (metas : List ℕ) × HoldsAt x (epoch_after kept) h pages metas (target_after kept) in
-    inr (subst P (sym done) (sound r size keeps))
+keeps_or_holds count kept h pages metas blocks body r image size keeps avoids held (inl un) = inl (keeps_unfinished count kept blocks r image size keeps avoids un)
+keeps_or_holds count kept h pages metas blocks body r image size keeps avoids held (inr done) =
+    inr (pages, metas, subst (λ (x : List ℕ). HoldsAt x (epoch_after kept) h pages metas (target_after kept)) (sym done) held)
 
 -- ---- the slot of a finished commit
 

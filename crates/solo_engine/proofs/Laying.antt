@@ -1,17 +1,19 @@
 -- Pages and meta blocks in their blocks.
-use Rattle.std.proofs.Common.{◌≡◌, ℕ, zero, suc, ◌+◌, ◌<◌, Bool, List, [], ◌∷◌, ◌++◌, ◌↔◌, length, map, take, drop, get_or, refl, sym, ap, ap₂, ◌∙◌, subst, arith}
+use Rattle.std.proofs.Common.{◌≡◌, ℕ, zero, suc, ◌+◌, ◌<◌, Bool, List, [], ◌∷◌, ◌++◌, ◌↔◌, length, map, take, drop, get_or, refl, sym, ap, ap₂, ◌∙◌, subst, arith, length-append}
 use Rattle.std.proofs.lemmas.List.{length-take-le, take_more, map-append, length-map}
 use Rattle.std.specs.Prelude.{IsTrue, IfNone, IfSome, None, Option, Some}
 use Rattle.block_alloc.specs.Free.{is_free, MayBeFree}
 use Rattle.ckpt_chain.specs.Chain.{first_of, laid}
 use Rattle.ckpt_chain.specs.declared.slot.SlotBody.{SlotBody}
 use Rattle.group_defs.specs.declared.frame.Frame.{Frame}
+use Rattle.ckpt_records.specs.Holds.{page_of}
 use Rattle.ckpt_records.specs.Spelling.{record_bytes}
 use Rattle.ckpt_records.specs.declared.meta.PagePlace.{PagePlace}
 use Rattle.commit_gate.specs.Whole.{numbers}
 use Rattle.commit_gate.specs.declared.whole.Block.{Block}
-use Rattle.solo_engine.specs.Plans.{IsLaidOut, metas_for, placed}
-use Rattle.solo_engine.specs.Taking.{AreLaidIn, AreTaken, block_of, blocks_in}
+use Rattle.solo_engine.specs.Plans.{IsLaidOut, metas_for, place_of, placed}
+use Rattle.solo_engine.specs.Taking.{AreTaken, IsLaidAs, IsLaidIn, block_of, blocks_in}
+use Rattle.solo_engine.specs.declared.plan.Layout.{Layout}
 use Rattle.solo_engine.specs.declared.plan.Page.{Page}
 use Rattle.solo_engine.proofs.Taken.{all_weaker, behind_both, pairs_of_rise, taken_then}
 
@@ -37,6 +39,16 @@ pub blocks_none : blocks_in [] [] ≡ []
 unfolding blocks_in
 blocks_none = refl
 
+-- which pages they are
+pub which_placed : (pages : List Page) (places : List ℕ) → length places ≡ length pages → map page_of (placed pages places) ≡ map place_of pages
+unfolding placed
+which_placed [] places size = refl
+which_placed (p ∷ pages) [] size = absurd (omega (arith, size))
+which_placed (p ∷ pages) (b ∷ places) size = ap (λ (l : List (ℕ × ℕ)). (p.object, p.page) ∷ l) (which_placed pages places (omega (arith, size)))
+
+pub length_placed : (pages : List Page) (places : List ℕ) → length places ≡ length pages → length (placed pages places) ≡ length places
+length_placed pages places size = sym (length-map (placed pages places) page_of) ∙ ap length (which_placed pages places size) ∙ length-map pages place_of ∙ sym size
+
 -- the loops' steps
 pub placed_more : (pages : List Page) (blocks : List ℕ) (i : ℕ) (p : Page) (list list' : List PagePlace) → length blocks ≡ length pages → i < length pages → p ≡ get_or pages i p
     → list ≡ placed (take i pages) (take i blocks) → list' ≡ list ++ record { object = p.object; page = p.page; block = get_or blocks i 0 } ∷ [] → list' ≡ placed (take (i + 1) pages) (take (i + 1) blocks)
@@ -58,6 +70,16 @@ blocks_more ns contents i bytes list list' same lt at is more =
     let contents' : take i contents ++ bytes ∷ [] ≡ take (i + 1) contents = ap (λ x. take i contents ++ x ∷ []) at ∙ sym (take_more contents i bytes lt) in
     more ∙ ap (λ (l : List Block). l ++ block_of n bytes ∷ []) is ∙ sym (blocks_snoc (take i ns) (take i contents) n bytes size) ∙ ap₂ blocks_in ns' contents'
 
+pub page_moved : (ns : List ℕ) (gone : List Page) (p : Page) (list list' : List Block) → length gone < length ns → list ≡ blocks_in (take (length gone) ns) (map (λ (q : Page). q.bytes) gone)
+    → list' ≡ list ++ block_of (get_or ns (length gone) 0) p.bytes ∷ [] → list' ≡ blocks_in (take (length (gone ++ p ∷ [])) ns) (map (λ (q : Page). q.bytes) (gone ++ p ∷ []))
+page_moved ns gone p list list' lt is more =
+    let bytes : Page → List ℕ = λ q. q.bytes in
+    let size : length (take (length gone) ns) ≡ length (map bytes gone) = omega (arith, length-take-le (length gone) ns (omega (arith, lt)), length-map gone bytes) in
+    let long : length gone + 1 ≡ length (gone ++ p ∷ []) = omega (arith, length-append gone (p ∷ [])) in
+    let ns' : take (length gone) ns ++ get_or ns (length gone) 0 ∷ [] ≡ take (length (gone ++ p ∷ [])) ns = sym (take_more ns (length gone) 0 lt) ∙ ap (λ (n : ℕ). take n ns) long in
+    more ∙ ap (λ (l : List Block). l ++ block_of (get_or ns (length gone) 0) p.bytes ∷ []) is
+    ∙ sym (blocks_snoc (take (length gone) ns) (map bytes gone) (get_or ns (length gone) 0) p.bytes size) ∙ ap₂ blocks_in ns' (sym (map-append bytes gone (p ∷ [])))
+
 -- their numbers and their bytes
 pub numbers_in : (ns : List ℕ) (contents : List (List ℕ)) → length ns ≡ length contents → numbers (blocks_in ns contents) ≡ ns
 unfolding blocks_in
@@ -71,11 +93,6 @@ bytes_in [] [] same = refl
 bytes_in [] (x ∷ xs) same = absurd (omega (arith, same))
 bytes_in (n ∷ ns) [] same = absurd (omega (arith, same))
 bytes_in (n ∷ ns) (x ∷ xs) same = ap (λ (l : List (List ℕ)). x ∷ l) (bytes_in ns xs (omega (arith, same)))
-
-pub bytes_at : (pages : List Page) (i : ℕ) (p : Page) → p ≡ get_or pages i p → p.bytes ≡ get_or (map (λ (p : Page). p.bytes) pages) i p.bytes
-bytes_at [] i p at = refl
-bytes_at (q ∷ pages) zero p at = ap (λ (p : Page). p.bytes) at
-bytes_at (q ∷ pages) (suc i) p at = bytes_at pages i p at
 
 pub laid_length : (bytes ns : List ℕ) → length (laid bytes ns) ≡ length ns
 unfolding laid
@@ -102,41 +119,38 @@ of_none {X = X} found P is holds = subst (λ (o : Option X). IfNone o P) is hold
 pub of_some : {X : Type 0} (o : Option X) (x : X) (P : X → Type 0) → o ≡ Some x → IfSome o P → P x
 of_some {X = X} o x P is holds = subst (λ (k : Option X). IfSome k P) is holds
 
--- a plan in free blocks
-pub laid_out : (count : ℕ) (used : List ℕ) (flags : List Bool) (epoch : ℕ) (f : Frame) (pages : List Page) (blocks : List Block) (body : SlotBody) → ((b : ℕ) → IsTrue (is_free flags b) ↔ MayBeFree count used b)
-    → AreLaidIn flags epoch f pages blocks body → IsLaidOut count used epoch f pages blocks body
-laid_out count used flags epoch f pages blocks body free are = record {
-  places = are.places;
-  metas = are.metas;
-  enough = are.enough;
-  metas_enough = are.metas_enough;
-  numbers_are = are.numbers_are;
-  rising = pairs_of_rise (are.places ++ are.metas) are.rising;
-  free = all_weaker (λ b. IsTrue (is_free flags b)) (MayBeFree count used) (are.places ++ are.metas) (λ b on. (free b).0 on) are.free;
-  least = λ b may. are.least b ((free b).1 may);
-  bytes_are = are.bytes_are;
-  body_is = are.body_is;
-}
-
-abbrev body_of : ℕ → ℕ → ℕ → SlotBody
+abbrev pub body_of : ℕ → ℕ → ℕ → SlotBody
 body_of epoch first size = record { epoch = epoch; first = first; length = size }
 
--- a plan in blocks that were taken
-pub laid_in : (a b c : List Bool) (places metas : List ℕ) (epoch : ℕ) (f : Frame) (pages : List Page) (bytes : List ℕ) (blocks : List Block) (first size : ℕ) → AreTaken a places b → AreTaken b metas c
-    → length places ≡ length pages → bytes ≡ record_bytes f (placed pages places) → length metas ≡ metas_for (length bytes) → numbers blocks ≡ places ++ metas
-    → map (λ (b : Block). b.bytes) blocks ≡ map (λ (p : Page). p.bytes) pages ++ laid bytes metas → first ≡ first_of metas → size ≡ length bytes
-    → AreLaidIn a epoch f pages blocks (record { epoch = epoch; first = first; length = size })
-laid_in a b c places metas epoch f pages bytes blocks first size one two enough is metas_enough numbers_are bytes_are first_is size_is =
-    let both = taken_then a b c places metas one two in
+-- a plan of a layout in free blocks
+pub laid_out : (count : ℕ) (used : List ℕ) (flags : List Bool) (epoch : ℕ) (f : Frame) (pages : List Page) (layout : Layout) (blocks : List Block) (body : SlotBody) → ((b : ℕ) → IsTrue (is_free flags b) ↔ MayBeFree count used b)
+    → IsLaidIn flags f pages layout → IsLaidAs layout epoch pages blocks body → IsLaidOut count used epoch f pages blocks body
+laid_out count used flags epoch f pages layout blocks body free lies are =
+    let places = layout.places.items in
+    let metas = layout.metas.items in
     record {
       places = places;
       metas = metas;
+      enough = lies.enough;
+      metas_enough = lies.metas_enough ∙ ap (λ (l : List ℕ). metas_for (length l)) lies.record_is;
+      numbers_are = are.numbers_are;
+      rising = pairs_of_rise (places ++ metas) lies.rising;
+      free = all_weaker (λ b. IsTrue (is_free flags b)) (MayBeFree count used) (places ++ metas) (λ b on. (free b).0 on) lies.free;
+      least = λ b may. lies.least b ((free b).1 may);
+      bytes_are = are.bytes_are ∙ ap (λ (l : List ℕ). map (λ (p : Page). p.bytes) pages ++ laid l metas) lies.record_is;
+      body_is = are.body_is ∙ ap (λ (l : List ℕ). body_of epoch (first_of metas) (length l)) lies.record_is;
+    }
+
+-- a layout in blocks that were taken
+pub laid_in : (a b c : List Bool) (f : Frame) (pages : List Page) (layout : Layout) → AreTaken a layout.places.items b → AreTaken b layout.metas.items c → length layout.places.items ≡ length pages
+    → layout.bytes.items ≡ record_bytes f (placed pages layout.places.items) → length layout.metas.items ≡ metas_for (length layout.bytes.items) → IsLaidIn a f pages layout
+laid_in a b c f pages layout one two enough is metas_enough =
+    let both = taken_then a b c layout.places.items layout.metas.items one two in
+    record {
       enough = enough;
-      metas_enough = metas_enough ∙ ap (λ (l : List ℕ). metas_for (length l)) is;
-      numbers_are = numbers_are;
+      record_is = is;
+      metas_enough = metas_enough;
       rising = both.1;
       free = both.0;
-      least = behind_both a b c places metas one two;
-      bytes_are = bytes_are ∙ ap (λ (l : List ℕ). map (λ (p : Page). p.bytes) pages ++ laid l metas) is;
-      body_is = ap₂ (body_of epoch) first_is (size_is ∙ ap length is);
+      least = behind_both a b c layout.places.items layout.metas.items one two;
     }

@@ -22,13 +22,15 @@ use Rattle.commit_gate.specs.Whole.{IsPlaced, numbers, finished}
 use Rattle.commit_gate.specs.declared.whole.Block.{Block}
 use Rattle.commit_gate.proofs.Finished.{finished_same}
 use Rattle.solo_engine.specs.Keeping.{Kept, Keeps, Avoids, Covers, IsPlan, target_after, epoch_after}
-use Rattle.solo_engine.specs.Plans.{place_of, ArePagesOf, placed, IsLaidOut}
+use Rattle.solo_engine.specs.Plans.{place_of, ArePagesOf, placed, IsLaidOut, blocks_for, cost_of}
 use Rattle.solo_engine.specs.declared.plan.Page.{Page}
 use Rattle.solo_engine.proofs.FitsLaws.{few_between, record_fits}
 use Rattle.solo_engine.proofs.FinishedLaws.{IsRising, committed}
 use Rattle.solo_engine.proofs.Keeps.{committed_newest}
 use Rattle.restore_group.proofs.Ordered.{IsOrdered, each_weaker, each_both, each_append, each_left, each_right, each_map, each_of_map, ordered_of_map, ordered_of_pairs}
 use Rattle.solo_engine.proofs.PageLaws.{pages_rise, pages_are_of}
+use Rattle.solo_engine.proofs.Counting.{size_anywhere}
+use Rattle.solo_engine.proofs.Laying.{length_placed, which_placed}
 
 abbrev IsWhole : List ℕ → Type 0
 IsWhole bytes = length bytes ≡ 4096
@@ -87,15 +89,6 @@ has_right image (m ∷ ms) ns [] ys size has = absurd (omega (arith, size))
 has_right image (m ∷ ms) ns (x ∷ xs) ys size has = has_right image ms ns xs ys (omega (arith, size)) has.1
 
 -- ---- pages in their blocks
-
-which_placed : (pages : List Page) (places : List ℕ) → length places ≡ length pages → map page_of (placed pages places) ≡ map place_of pages
-unfolding placed
-which_placed [] places size = refl
-which_placed (p ∷ pages) [] size = absurd (omega (arith, size))
-which_placed (p ∷ pages) (b ∷ places) size = ap (λ (l : List (ℕ × ℕ)). (p.object, p.page) ∷ l) (which_placed pages places (omega (arith, size)))
-
-pub length_placed : (pages : List Page) (places : List ℕ) → length places ≡ length pages → length (placed pages places) ≡ length places
-length_placed pages places size = sym (length-map (placed pages places) page_of) ∙ ap length (which_placed pages places size) ∙ length-map pages place_of ∙ sym size
 
 pages_read : (image : List ℕ) (memory : List (ℕ × List ℕ)) (pages : List Page) (places : List ℕ) → HasBlocks image places (map (λ p. p.bytes) pages)
     → AllByRecursion (λ (p : Page). p.bytes ≡ page_bytes memory (place_of p)) pages
@@ -269,11 +262,19 @@ module _ (count : ℕ) (used : List ℕ) (epoch : ℕ) (f : Frame) (pages : List
       has_swapped : (xs ys : List ℕ) (b : ℕ) {zs : List ℕ} → Has b (xs ++ ys) → zs ≡ xs → Has b (ys ++ zs)
       has_swapped xs ys b has same = subst (λ (ns : List ℕ). Has b (ys ++ ns)) (sym same) (has_swap xs ys b has)
 
+  -- as many as the group's pages and meta blocks
+  as_many : (g : Group) → g.frame ≡ f → ArePagesOf g pages → length blocks ≡ cost_of g
+  as_many g same are =
+      let all : length blocks ≡ length l.places + length l.metas = sym (length-map blocks (λ (b : Block). b.number)) ∙ ap length l.numbers_are ∙ length-append l.places l.metas in
+      let own : blocks_for f (map place_of pages) ≡ cost_of g = ap (λ (x : Frame). blocks_for x (map place_of pages)) (sym same) ∙ ap (blocks_for g.frame) are.which in
+      omega (arith, all, own, l.enough, l.metas_enough, size_anywhere f pages l.places l.enough, length-map pages place_of)
+
   pub laid_plan : 16 ≤ count → count ≤ 2 ^ 20 → (g : Group) → g.frame ≡ f → IsCheckpointed g → ArePagesOf g pages → epoch < 2 ^ 64 → IsPlan count used epoch g blocks body
   laid_plan least most g same checkpointed are epoch64 = record {
     pages = placed pages l.places;
     metas = l.metas;
     uses = uses;
+    size = as_many g same are;
     placed = all_placed;
     avoids = laid_avoids;
     sound = λ kept covers epoch_is r size keeps. holds_after g same checkpointed are least most kept covers epoch_is epoch64 r size keeps;

@@ -6,8 +6,10 @@ mod LayoutLaws
 mod Taken
 mod Laying
 mod Counting
+mod FreeLaws
 mod Pieces
 mod Standing
+mod WriteLaws
 mod Between
 mod Outputs
 mod GateLaws

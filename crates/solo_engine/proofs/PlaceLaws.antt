@@ -12,12 +12,9 @@ use Rattle.group_defs.specs.Touched.{all_pages, nonzero_pages, page_bytes, is_ze
 use Rattle.group_defs.specs.Valid.{GroupIsValid, IsObject}
 use Rattle.group_defs.specs.declared.frame.ObjectRec.{ObjectRec}
 use Rattle.solo_engine.specs.Placing.{page_in, is_zero, is_kept, page_with, pages_up_to, pages_of, pages_in}
-use Rattle.ckpt_records.specs.Spelling.{record_bytes}
-use Rattle.ckpt_records.specs.declared.meta.PagePlace.{PagePlace}
-use Rattle.solo_engine.specs.Answers.{cost_of, unplaced}
 use Rattle.group_defs.specs.declared.frame.Frame.{Frame}
 use Rattle.solo_engine.specs.Interval.{NeedsMore}
-use Rattle.solo_engine.specs.Plans.{anywhere, metas_for, needs, place_of, ArePagesOf, IsPlanRefused}
+use Rattle.solo_engine.specs.Plans.{ArePagesOf, IsPlanRefused, blocks_for, cost_of, place_of}
 use Rattle.solo_engine.specs.declared.kept.KeptBlocks.{KeptBlocks}
 use Rattle.solo_engine.specs.declared.plan.PlanRefused.TheVariants.{Full}
 use Rattle.solo_engine.specs.declared.plan.Page.{Page}
@@ -230,22 +227,13 @@ no_gathered g none valid = subst (ArePagesOf g) (ap pages_in none ∙ no_objects
 
 -- ---- how many blocks they take
 
-map_of_map : {X Y Z : Type 0} (f : Y → Z) (h : X → Y) (xs : List X) → map f (map h xs) ≡ map (λ x. f (h x)) xs
-map_of_map f h [] = refl
-map_of_map f h (x ∷ xs) = ap (λ zs. f (h x) ∷ zs) (map_of_map f h xs)
-
-pub cost_is : (g : Group) (pages : List Page) → ArePagesOf g pages → needs g.frame pages ≡ cost_of g
-cost_is g pages are =
-    let places : map anywhere pages ≡ map unplaced (nonzero_pages g) = sym (map_of_map unplaced place_of pages) ∙ ap (map unplaced) are.which in
-    ap (λ (n : ℕ). n + metas_for (length (record_bytes g.frame (map anywhere pages)))) (sym (length-map pages place_of) ∙ ap length are.which)
-    ∙ ap (λ (ps : List PagePlace). length (nonzero_pages g) + metas_for (length (record_bytes g.frame ps))) places
+pub cost_is : (g : Group) (pages : List Page) → ArePagesOf g pages → blocks_for g.frame (map place_of pages) ≡ cost_of g
+cost_is g pages are = ap (blocks_for g.frame) are.which
 
 -- a plan that is refused for want of blocks
 pub full_needs : (count : ℕ) (g : Group) (k : KeptBlocks) (f : Frame) (pages : List Page) (need free : ℕ) → f ≡ g.frame → ArePagesOf g pages → IsPlanRefused count k.used.items f pages (Full need free) → NeedsMore count g k need free
 full_needs count g k f pages need free same are full = record {
-  flags = full.flags;
-  flags_are = full.flags_are;
   free_is = full.free_is;
-  need_is = full.need_is ∙ ap (λ (x : Frame). needs x pages) same ∙ cost_is g pages are;
+  need_is = full.need_is ∙ ap (λ (x : Frame). blocks_for x (map place_of pages)) same ∙ cost_is g pages are;
   too_few = full.too_few;
 }

@@ -1,49 +1,33 @@
 -- What a run answers, and what stands then.
-use Rattle.std.specs.Prelude.{◌≡◌, ◌⊎◌, ◌↔◌, ◌<◌, ◌≤◌, ◌+◌, ℕ, Bool, false, IsTrue, ⊤, List, map, length}
-use Rattle.std.specs.List.{list_any}
+use Rattle.std.specs.Prelude.{◌≡◌, ◌⊎◌, ◌<◌, ◌≤◌, ◌+◌, ℕ, false, IsTrue, ⊤, List, Option, Some, None}
+use Rattle.std.specs.List.{filter_map, list_any, sum_by}
 use Rattle.std.specs.Option.{ForSome}
 use Rattle.dev_traits.specs.Counts.{Rose}
 use Rattle.dev_traits.specs.Disk.{DiskView, LeftNow}
 use Rattle.dev_traits.specs.Outside.{SinkView}
 use Rattle.group_defs.specs.declared.run.AckMark.{AckMark}
+use Rattle.group_defs.specs.declared.run.Mark.{Mark}
+use Rattle.group_defs.specs.declared.run.Mark.TheVariants.{Fetch}
 use Rattle.group_defs.specs.Ends.{IsDone, IsStuck, IsSpent}
 use Rattle.group_defs.specs.Group.{Group}
 use Rattle.group_defs.specs.Legal.{Legal}
 use Rattle.group_defs.specs.Solo.{IsSoloPrefix}
-use Rattle.group_defs.specs.Touched.{nonzero_pages}
-use Rattle.group_defs.specs.Trace.{IsGroupOf, is_ack_of, is_fetch_of, is_fetch}
-use Rattle.block_alloc.specs.Free.{MayBeFree, free_count, is_free}
-use Rattle.ckpt_records.specs.Spelling.{record_bytes}
-use Rattle.ckpt_records.specs.declared.meta.PagePlace.{PagePlace}
+use Rattle.group_defs.specs.Trace.{IsGroupOf, group_of, is_ack_of, is_fetch_of, is_fetch}
 use Rattle.solo_engine.specs.Keeping.{Kept, Keeps, epoch_after, used_by}
-use Rattle.solo_engine.specs.Plans.{metas_for}
-use Rattle.solo_engine.specs.Safe.{Run, Safe, AreAcks, HoldsOne, KeepsLast, Released, IsUnwritten, IsWhole, last_group}
+use Rattle.solo_engine.specs.Plans.{calls_for, cost_of, free_blocks}
+use Rattle.solo_engine.specs.Safe.{RunSoFar, Safe, AreAcks, HoldsOne, KeepsLast, Released, IsUnwritten, IsWhole, last_group}
 use Rattle.solo_engine.specs.declared.run.RunAnswer.{RunAnswer}
 use Rattle.solo_engine.specs.declared.run.RunAnswer.TheVariants.{Done, Stuck, Spent, DiskFault, SinkFault, DiskFull, NoMemory}
 
--- the page in block 0: a record's length is the same wherever its pages lie
-abbrev pub unplaced : ℕ × ℕ → PagePlace
-unplaced page = record { object = page.0; page = page.1; block = 0 }
-
--- how many meta blocks a group's checkpoint has, and how many blocks with those of its pages that aren't all zero
-abbrev pub metas_of : Group → ℕ
-metas_of g = metas_for (length (record_bytes g.frame (map unplaced (nonzero_pages g))))
-
-abbrev pub cost_of : Group → ℕ
-cost_of g = length (nonzero_pages g) + metas_of g
-
--- So many blocks behind the slots are free of the checkpoint that the image keeps, which is the one before this epoch: a flag
--- for each block says which.
+-- So many blocks are free of the checkpoint that the image keeps, which is the one before this epoch.
 pub record HasFree (count : ℕ) (image : List ℕ) (epoch free : ℕ) : Type 0 where
   pub kept : Kept
   pub keeps : Keeps image kept
   pub next : epoch_after kept ≡ epoch
-  pub flags : List Bool
-  pub flags_are : (b : ℕ) → IsTrue (is_free flags b) ↔ MayBeFree count (used_by kept) b
-  pub free_is : free ≡ free_count flags
+  pub free_is : free ≡ free_blocks count (used_by kept)
 
 -- The checkpoint of the last barrier, which is fetched and not acknowledged, needs more blocks than are free.
-pub record IsDiskFull (run : Run) (disk : DiskView) (need free : ℕ) : Type 0 where
+pub record IsDiskFull (run : RunSoFar) (disk : DiskView) (need free : ℕ) : Type 0 where
   pub epoch : ℕ
   pub fetched : IsTrue (list_any (is_fetch_of epoch) run.trace)
   pub unacked : list_any (is_ack_of epoch) run.trace ≡ false
@@ -55,7 +39,7 @@ pub record IsDiskFull (run : Run) (disk : DiskView) (need free : ℕ) : Type 0 w
 
 -- Why a run ended: by itself, as the definitions of ends say; a fault only where that device's count rose; a full disk. Want
 -- of memory is open.
-abbrev pub EndsFor : Run → DiskView → DiskView → SinkView → SinkView → RunAnswer → Type 0
+abbrev pub EndsFor : RunSoFar → DiskView → DiskView → SinkView → SinkView → RunAnswer → Type 0
 EndsFor run disk disk' out out' Done = IsWhole run out' × IsDone (last_group run)
 EndsFor run disk disk' out out' Stuck = IsWhole run out' × IsStuck (last_group run)
 EndsFor run disk disk' out out' Spent = IsWhole run out' × IsSpent run.limits run.trace (last_group run)
@@ -64,9 +48,24 @@ EndsFor run disk disk' out out' SinkFault = Rose out.faults out'.faults
 EndsFor run disk disk' out out' (DiskFull need free) = IsDiskFull run disk' need free
 EndsFor run disk disk' out out' NoMemory = ⊤
 
+-- the epochs of the Fetches
+abbrev pub fetched_epoch : Mark → Option ℕ
+fetched_epoch (Fetch epoch) = Some epoch
+fetched_epoch m = None
+
+-- the write calls of the commit of an epoch's group, where the trace has its barrier
+abbrev pub calls_of : RunSoFar → ℕ → ℕ
+calls_of run epoch = elim (group_of run.limits.quantum run.start run.origin run.trace epoch) [ None ↦ 0 | Some g ↦ calls_for g ]
+
+-- ... and of the commits of all epochs that the trace fetches
+abbrev pub writes_allowed : RunSoFar → ℕ
+writes_allowed run = sum_by (calls_of run) (filter_map fetched_epoch run.trace)
+
 -- What a run has done so far, whose disk and output were these at its start.
-pub record StandsSafe (run : Run) (acks : List AckMark) (disk disk' : DiskView) (out out' : SinkView) : Type 0 where
+pub record StandsSafe (run : RunSoFar) (acks : List AckMark) (disk disk' : DiskView) (out out' : SinkView) : Type 0 where
   pub blocks : disk'.blocks ≡ disk.blocks
+  -- on every disk, told or not
+  pub writes : disk'.writes ≤ disk.writes + writes_allowed run
   -- the disk that comes back, where the disk tells its bytes
   pub safe : ForSome disk.reading (λ r. Safe run disk.moment acks disk disk')
   -- ... and what it could leave since a moment before the call
@@ -77,7 +76,7 @@ pub record StandsSafe (run : Run) (acks : List AckMark) (disk disk' : DiskView) 
   pub unfetched : list_any is_fetch run.trace ≡ false → IsUnwritten disk disk' × ((t : ℕ) (image : List ℕ) → t ≤ disk.moment → disk'.left t image → disk.left t image)
 
 -- A whole run: its trace is legal, and the beginning of the one trace on one thread.
-pub record HasRun (run : Run) (acks : List AckMark) (disk disk' : DiskView) (out out' : SinkView) (answer : RunAnswer) : Type 0 where
+pub record HasRun (run : RunSoFar) (acks : List AckMark) (disk disk' : DiskView) (out out' : SinkView) (answer : RunAnswer) : Type 0 where
   pub legal : Legal run.start run.origin run.limits run.trace
   pub order : IsSoloPrefix run.start run.origin run.limits run.trace
   pub stands : StandsSafe run acks disk disk' out out'

@@ -1,6 +1,6 @@
 -- What the parts of an interval do: the turns up to a barrier, the barrier with its fetch, the plan, and the commit with the
 -- release.
-use Rattle.std.specs.Prelude.{◌≡◌, ◌⊎◌, ◌↔◌, ◌≤◌, ◌<◌, ◌+◌, ◌-◌, ◌*◌, ℕ, ⊤, Bool, IsTrue, List, [], ◌∷◌, ◌++◌, length, take, drop}
+use Rattle.std.specs.Prelude.{◌≡◌, ◌⊎◌, ◌≤◌, ◌<◌, ◌+◌, ◌-◌, ◌*◌, ℕ, ⊤, List, [], ◌∷◌, ◌++◌, length, take, drop}
 use Rattle.std.specs.List.{filter_map}
 use Rattle.std.specs.Option.{ForSome}
 use Rattle.dev_traits.specs.Counts.{Rose}
@@ -18,15 +18,14 @@ use Rattle.group_defs.specs.Legal.{ready}
 use Rattle.group_defs.specs.Output.{last_position}
 use Rattle.group_defs.specs.Solo.{IsSoloSoFar}
 use Rattle.group_defs.specs.Trace.{barrier, acked_epoch}
-use Rattle.block_alloc.specs.Free.{MayBeFree, free_count, is_free}
 use Rattle.ckpt_records.specs.Holds.{IsCheckpointed}
 use Rattle.commit_gate.specs.Whole.{Reads, finished, numbers}
 use Rattle.commit_gate.specs.declared.whole.Block.{Block}
 use Rattle.ckpt_chain.specs.declared.slot.SlotBody.{SlotBody}
-use Rattle.solo_engine.specs.Answers.{cost_of}
 use Rattle.solo_engine.specs.Going.{StandsAt}
 use Rattle.solo_engine.specs.Keeping.{Kept, nothing, checkpoint, Keeps, KeepsOrHolds, IsPlan}
 use Rattle.solo_engine.specs.Known.{IsAfter, Knows}
+use Rattle.solo_engine.specs.Plans.{calls_for, cost_of, free_blocks}
 use Rattle.solo_engine.specs.declared.interval.Ready.{Ready}
 use Rattle.solo_engine.specs.declared.kept.KeptBlocks.{KeptBlocks}
 use Rattle.solo_engine.specs.declared.run.RunAnswer.{RunAnswer}
@@ -78,9 +77,7 @@ pub record IsReady (count : ℕ) (g : Group) (k : KeptBlocks) (r : Ready) : Type
 
 -- The group needs more blocks than are free.
 pub record NeedsMore (count : ℕ) (g : Group) (k : KeptBlocks) (need free : ℕ) : Type 0 where
-  pub flags : List Bool
-  pub flags_are : (b : ℕ) → IsTrue (is_free flags b) ↔ MayBeFree count k.used.items b
-  pub free_is : free ≡ free_count flags
+  pub free_is : free ≡ free_blocks count k.used.items
   pub need_is : need ≡ cost_of g
   pub too_few : free < need
 
@@ -101,6 +98,7 @@ LeavesKept k g disk disk' = ForSome disk.reading (λ r. (kept : Kept) → Knows 
 -- The commit failed.
 pub record IsUncommitted (k : KeptBlocks) (g : Group) (disk disk' : DiskView) : Type 0 where
   pub blocks : disk'.blocks ≡ disk.blocks
+  pub writes : disk'.writes ≤ disk.writes + calls_for g
   pub later : disk.moment ≤ disk'.moment
   pub leaves : LeavesKept k g disk disk'
   pub rose : Rose disk.faults disk'.faults
@@ -108,6 +106,7 @@ pub record IsUncommitted (k : KeptBlocks) (g : Group) (disk disk' : DiskView) : 
 -- It was acknowledged: the plan is the disk's reading, and nothing else could be left.
 pub record IsCommitted (k : KeptBlocks) (g : Group) (planned : List Block) (body : SlotBody) (disk disk' : DiskView) (trace trace' : List Mark) (acks acks' : List AckMark) : Type 0 where
   pub blocks : disk'.blocks ≡ disk.blocks
+  pub writes : disk'.writes ≤ disk.writes + calls_for g
   pub later : disk.moment ≤ disk'.moment
   pub faults : disk.faults ≤ disk'.faults
   pub leaves : LeavesKept k g disk disk'

@@ -11,6 +11,7 @@ use Rattle.ckpt_records.specs.Holds.{HoldsAt, block_numbers}
 use Rattle.ckpt_records.specs.declared.meta.PagePlace.{PagePlace}
 use Rattle.commit_gate.specs.Whole.{IsPlaced, numbers, finished}
 use Rattle.commit_gate.specs.declared.whole.Block.{Block}
+use Rattle.solo_engine.specs.Plans.{cost_of}
 
 -- nothing; or the checkpoint of an epoch: its group, where its pages lie, its meta blocks, and its slot
 pub data Kept : Type 0 where
@@ -46,12 +47,6 @@ pub record Avoids (count : ℕ) (kept : Kept) (blocks : List Block) : Type 0 whe
   pub placed : AllByRecursion (IsPlaced count) blocks
   pub free : (b : ℕ) → Has b (numbers blocks) → Has b (used_by kept) → ⊥
 
--- What is committed holds the next epoch and this group, on every disk of so many blocks that keeps what is kept.
-abbrev pub IsSoundAfter : ℕ → Kept → Group → List Block → SlotBody → Type 0
-IsSoundAfter count kept h blocks body =
-    (r : List ℕ) → length r ≡ 4096 * count → Keeps r kept
-    → (pages : List PagePlace) × (metas : List ℕ) × HoldsAt (finished (target_after kept) blocks body r) (epoch_after kept) h pages metas (target_after kept)
-
 -- what a stop during the commit leaves: what was kept, or the next epoch's group
 abbrev pub KeepsOrHolds : Kept → Group → List ℕ → Type 0
 KeepsOrHolds kept h image =
@@ -61,12 +56,14 @@ KeepsOrHolds kept h image =
 abbrev pub Covers : List ℕ → Kept → Type 0
 Covers used kept = (b : ℕ) → Has b (used_by kept) → Has b used
 
--- The plan of a group's commit as this epoch: its pages and its meta blocks lie in the blocks written, which avoid those in
--- use; on every disk of so many blocks whose kept checkpoint uses only blocks in use, it is the group's once it is finished.
+-- The plan of a group's commit as this epoch: its pages and its meta blocks lie in the blocks written, which are as many as these
+-- take, and avoid those in use; on every disk of so many blocks whose kept checkpoint uses only blocks in use, it is the group's
+-- once it is finished.
 pub record IsPlan (count : ℕ) (used : List ℕ) (epoch : ℕ) (g : Group) (blocks : List Block) (body : SlotBody) : Type 0 where
   pub pages : List PagePlace
   pub metas : List ℕ
   pub uses : (b : ℕ) → Has b (numbers blocks) ↔ Has b (metas ++ block_numbers pages)
+  pub size : length blocks ≡ cost_of g
   pub placed : AllByRecursion (IsPlaced count) blocks
   pub avoids : (kept : Kept) → Covers used kept → Avoids count kept blocks
   pub sound : (kept : Kept) → Covers used kept → epoch ≡ epoch_after kept → (r : List ℕ) → length r ≡ 4096 * count → Keeps r kept

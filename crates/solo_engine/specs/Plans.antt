@@ -1,10 +1,10 @@
 -- What a commit writes for a group.
-use Rattle.std.specs.Prelude.{◌⊎◌, ◌↔◌, Bool, IsTrue, ⊤, ◌≡◌, ◌<◌, ◌+◌, ◌/◌, ℕ, List, [], ◌∷◌, ◌++◌, length, map}
-use Rattle.std.specs.List.{AllByRecursion, AllPairs}
+use Rattle.std.specs.Prelude.{◌⊎◌, Bool, not, ⊤, ◌≡◌, ◌==◌, ◌<◌, ◌+◌, ◌-◌, ◌/◌, ℕ, List, [], ◌∷◌, ◌++◌, length, map}
+use Rattle.std.specs.List.{AllByRecursion, AllPairs, count_by, list_any, range_with_len}
 use Rattle.group_defs.specs.Group.{Group}
 use Rattle.group_defs.specs.Touched.{page_bytes, nonzero_pages}
 use Rattle.group_defs.specs.declared.frame.Frame.{Frame}
-use Rattle.block_alloc.specs.Free.{MayBeFree, free_count, is_free}
+use Rattle.block_alloc.specs.Free.{MayBeFree}
 use Rattle.ckpt_chain.specs.Chain.{Has, first_of, laid}
 use Rattle.ckpt_chain.specs.declared.slot.SlotBody.{SlotBody}
 use Rattle.ckpt_records.specs.Spelling.{record_bytes}
@@ -49,19 +49,34 @@ pub record IsLaidOut (count : ℕ) (used : List ℕ) (epoch : ℕ) (f : Frame) (
   pub body_is : body ≡ record { epoch = epoch; first = first_of metas; length = length (record_bytes f (placed pages places)) }
 
 -- the page in block 0: a record's length is the same wherever its pages lie
-abbrev pub anywhere : Page → PagePlace
-anywhere p = record { object = p.object; page = p.page; block = 0 }
+abbrev pub unplaced : ℕ × ℕ → PagePlace
+unplaced page = record { object = page.0; page = page.1; block = 0 }
 
--- how many blocks a checkpoint takes: one for each page, and those of its record
-abbrev pub needs : Frame → List Page → ℕ
-needs f pages = length pages + metas_for (length (record_bytes f (map anywhere pages)))
+-- how many blocks a checkpoint of these pages takes: one for each page, and its meta blocks
+abbrev pub blocks_for : Frame → List (ℕ × ℕ) → ℕ
+blocks_for f pages = length pages + metas_for (length (record_bytes f (map unplaced pages)))
 
--- The checkpoint needs more blocks than are free: both numbers, with a flag for each block.
+-- ... and one of a group, whose pages of zeros aren't written
+abbrev pub cost_of : Group → ℕ
+cost_of g = blocks_for g.frame (nonzero_pages g)
+
+-- How many write calls a group's commit makes at most: one a block, and one each to close the old gate, for the slot's body and
+-- for the gate.
+abbrev pub calls_for : Group → ℕ
+calls_for g = cost_of g + 3
+
+-- whether a block is among those in use
+abbrev pub is_used : List ℕ → ℕ → Bool
+is_used used block = list_any (λ u. u == block) used
+
+-- how many blocks behind the slots of a disk of so many blocks aren't
+abbrev pub free_blocks : ℕ → List ℕ → ℕ
+free_blocks count used = count_by (λ b. not (is_used used b)) (range_with_len 2 (count - 2))
+
+-- The checkpoint needs more blocks than are free: both numbers.
 pub record IsFull (count : ℕ) (used : List ℕ) (f : Frame) (pages : List Page) (need free : ℕ) : Type 0 where
-  pub flags : List Bool
-  pub flags_are : (b : ℕ) → IsTrue (is_free flags b) ↔ MayBeFree count used b
-  pub need_is : need ≡ needs f pages
-  pub free_is : free ≡ free_count flags
+  pub need_is : need ≡ blocks_for f (map place_of pages)
+  pub free_is : free ≡ free_blocks count used
   pub too_few : free < need
 
 -- Want of memory is open.

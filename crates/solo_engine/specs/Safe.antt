@@ -24,22 +24,22 @@ pub record IsUnwritten (before after : DiskView) : Type 0 where
   pub later : before.faults ≤ after.faults
   pub left : (image : List ℕ) → after.left before.moment image → LeftNow before image
 
--- A run: its limits, the group and the epoch that it began with, and its trace. On a new disk the epoch is 0.
-pub record Run : Type 0 where
+-- A run so far: its limits, the group and the epoch that it began with, and its trace. On a new disk the epoch is 0.
+pub record RunSoFar : Type 0 where
   pub limits : Limits
   pub start : Group
   pub origin : ℕ
   pub trace : List Mark
 
-abbrev pub run_of : Limits → Group → ℕ → List Mark → Run
+abbrev pub run_of : Limits → Group → ℕ → List Mark → RunSoFar
 run_of limits start origin trace = record { limits = limits; start = start; origin = origin; trace = trace }
 
 -- the group after the whole trace
-abbrev pub last_group : Run → Group
+abbrev pub last_group : RunSoFar → Group
 last_group run = group_after run.limits.quantum run.start run.trace
 
 -- The image holds the whole group of the trace's barrier of this epoch.
-pub record HoldsBarrier (run : Run) (image : List ℕ) (epoch : ℕ) : Type 0 where
+pub record HoldsBarrier (run : RunSoFar) (image : List ℕ) (epoch : ℕ) : Type 0 where
   pub barrier : IsTrue (list_any (is_barrier_of epoch) run.trace)
   pub group : Group
   pub group_is : IsGroupOf run.limits.quantum run.start run.origin run.trace epoch group
@@ -47,11 +47,11 @@ pub record HoldsBarrier (run : Run) (image : List ℕ) (epoch : ℕ) : Type 0 wh
 
 -- It holds the group of one barrier, or the group that the run began with; or the run began on a new disk, and no slot is
 -- open. A new disk's epoch is 0, which no image holds.
-abbrev pub HoldsOne : Run → List ℕ → Type 0
+abbrev pub HoldsOne : RunSoFar → List ℕ → Type 0
 HoldsOne run image = ((epoch : ℕ) × HoldsBarrier run image epoch) ⊎ (Holds image run.origin run.start ⊎ ((run.origin ≡ 0) × (newest image ≡ None)))
 
 -- The disk that comes back, whenever it stopped.
-pub record Safe (run : Run) (opened_at : ℕ) (acks : List AckMark) (before after : DiskView) : Type 0 where
+pub record Safe (run : RunSoFar) (opened_at : ℕ) (acks : List AckMark) (before after : DiskView) : Type 0 where
   -- since an acknowledgement: the group of a barrier of its epoch or of a later one
   pub acknowledged : AllByRecursion (λ a. (image : List ℕ) → after.left a.at image → (epoch : ℕ) × (a.epoch ≤ epoch) × HoldsBarrier run image epoch) acks
   -- since the opening
@@ -65,7 +65,7 @@ NeverFall from [] to = from ≤ to
 NeverFall from (a ∷ acks) to = (from ≤ a.at) × NeverFall a.at acks to
 
 -- The acknowledgements are those of the trace, each with its moment: the call's, the opening's, theirs and the answer's never fall.
-pub record AreAcks (run : Run) (opened_at : ℕ) (acks : List AckMark) (before after : DiskView) : Type 0 where
+pub record AreAcks (run : RunSoFar) (opened_at : ℕ) (acks : List AckMark) (before after : DiskView) : Type 0 where
   pub epochs : map (λ a. a.epoch) acks ≡ filter_map acked_epoch run.trace
   pub opening : before.moment ≤ opened_at
   pub moments : NeverFall opened_at acks after.moment
@@ -75,21 +75,21 @@ abbrev pub last_epoch : ℕ → List AckMark → ℕ
 last_epoch epoch [] = epoch
 last_epoch epoch (a ∷ acks) = last_epoch a.epoch acks
 
-abbrev pub last_acked : Run → List AckMark → ℕ
+abbrev pub last_acked : RunSoFar → List AckMark → ℕ
 last_acked run acks = last_epoch run.origin acks
 
 -- the output's bytes from one position up to another
-abbrev pub output_of : Run → ℕ → ℕ → List ℕ
+abbrev pub output_of : RunSoFar → ℕ → ℕ → List ℕ
 output_of run from to = output_between run.limits.quantum run.start run.trace from to
 
 -- The image has the group of the last acknowledged epoch; or nothing was acknowledged, and no slot of a new disk is open.
-abbrev pub KeepsLast : Run → List AckMark → List ℕ → Type 0
+abbrev pub KeepsLast : RunSoFar → List AckMark → List ℕ → Type 0
 KeepsLast run acks image =
     ((g : Group) × IsGroupOf run.limits.quantum run.start run.origin run.trace (last_acked run acks) g × Holds image (last_acked run acks) g)
     ⊎ ((run.origin ≡ 0) × (acks ≡ []) × (newest image ≡ None))
 
 -- The output got what the trace produced from its count on, up to a position that the last acknowledged barrier covers. The rest stays.
-pub record Released (run : Run) (acks : List AckMark) (before after : SinkView) : Type 0 where
+pub record Released (run : RunSoFar) (acks : List AckMark) (before after : SinkView) : Type 0 where
   pub to : ℕ
   pub mark : ℕ
   pub mark_is : mark_of run.limits.quantum run.start run.origin run.trace (last_acked run acks) ≡ Some mark
@@ -98,7 +98,7 @@ pub record Released (run : Run) (acks : List AckMark) (before after : SinkView) 
   pub taken : Takes (output_of run before.count to) before after
 
 -- The run ended by itself: its trace is the whole one of a run on one thread, and settled, and the output has everything.
-pub record IsWhole (run : Run) (out : SinkView) : Type 0 where
+pub record IsWhole (run : RunSoFar) (out : SinkView) : Type 0 where
   pub whole : IsSoloTrace run.start run.origin run.limits run.trace
   pub settled : IsSettled run.trace
   pub all_out : out.count ≡ last_position (last_group run).frame.out

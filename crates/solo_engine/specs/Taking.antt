@@ -9,6 +9,7 @@ use Rattle.ckpt_records.specs.Spelling.{record_bytes}
 use Rattle.commit_gate.specs.Whole.{numbers}
 use Rattle.commit_gate.specs.declared.whole.Block.{Block}
 use Rattle.solo_engine.specs.Plans.{metas_for, placed}
+use Rattle.solo_engine.specs.declared.plan.Layout.{Layout}
 use Rattle.solo_engine.specs.declared.plan.Page.{Page}
 
 -- each number is below all later ones
@@ -34,15 +35,17 @@ blocks_in [] contents = []
 blocks_in (n ∷ ns) [] = []
 blocks_in (n ∷ ns) (bytes ∷ contents) = block_of n bytes ∷ blocks_in ns contents
 
--- The pages and the meta blocks lie in blocks that were free; the body names them.
-pub record AreLaidIn (flags : List Bool) (epoch : ℕ) (f : Frame) (pages : List Page) (blocks : List Block) (body : SlotBody) : Type 0 where
-  pub places : List ℕ
-  pub metas : List ℕ
-  pub enough : length places ≡ length pages
-  pub metas_enough : length metas ≡ metas_for (length (record_bytes f (placed pages places)))
-  pub numbers_are : numbers blocks ≡ places ++ metas
-  pub rising : Rise (places ++ metas)
-  pub free : AllByRecursion (λ b. IsTrue (is_free flags b)) (places ++ metas)
-  pub least : (b : ℕ) → IsTrue (is_free flags b) → Has b (places ++ metas) ⊎ AllByRecursion (λ t. t < b) (places ++ metas)
-  pub bytes_are : map (λ b. b.bytes) blocks ≡ map (λ p. p.bytes) pages ++ laid (record_bytes f (placed pages places)) metas
-  pub body_is : body ≡ record { epoch = epoch; first = first_of metas; length = length (record_bytes f (placed pages places)) }
+-- The pages and the meta blocks lie in the least of the blocks that were free, and the record says where its pages do.
+pub record IsLaidIn (flags : List Bool) (f : Frame) (pages : List Page) (layout : Layout) : Type 0 where
+  pub enough : length layout.places.items ≡ length pages
+  pub record_is : layout.bytes.items ≡ record_bytes f (placed pages layout.places.items)
+  pub metas_enough : length layout.metas.items ≡ metas_for (length layout.bytes.items)
+  pub rising : Rise (layout.places.items ++ layout.metas.items)
+  pub free : AllByRecursion (λ b. IsTrue (is_free flags b)) (layout.places.items ++ layout.metas.items)
+  pub least : (b : ℕ) → IsTrue (is_free flags b) → Has b (layout.places.items ++ layout.metas.items) ⊎ AllByRecursion (λ t. t < b) (layout.places.items ++ layout.metas.items)
+
+-- The blocks are those of a layout, with the pages' bytes and the record's; the body names the record's.
+pub record IsLaidAs (layout : Layout) (epoch : ℕ) (pages : List Page) (blocks : List Block) (body : SlotBody) : Type 0 where
+  pub numbers_are : numbers blocks ≡ layout.places.items ++ layout.metas.items
+  pub bytes_are : map (λ b. b.bytes) blocks ≡ map (λ p. p.bytes) pages ++ laid layout.bytes.items layout.metas.items
+  pub body_is : body ≡ record { epoch = epoch; first = first_of layout.metas.items; length = length layout.bytes.items }

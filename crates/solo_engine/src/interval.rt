@@ -113,17 +113,17 @@ fn plan_of(
     count: u64,
     engine: &Engine,
     frame: &Frame,
-    pages: &[Page],
+    pages: Vec<Page>,
 ) -> Result<Ready, PlanRefused>
     requires least { 16 ≤ count }
     requires most { count ≤ 2 ^ 20 }
     requires checkpointed { IsCheckpointed (group_in engine.now.group) }
     requires epoch { engine.now.kept.epoch < 2 ^ 63 }
     requires frame { frame.now ≡ (group_in engine.now.group).frame }
-    requires pages { ArePagesOf (group_in engine.now.group) pages.now }
-    requires whole { AllByRecursion (λ p. length p.bytes ≡ 4096) pages.now }
+    requires pages { ArePagesOf (group_in engine.now.group) pages.items }
+    requires whole { AllByRecursion (λ p. length p.bytes ≡ 4096) pages.items }
     ensures ready { IfOk result (λ ready. IsReady count (group_in engine.now.group) engine.now.kept ready) }
-    ensures refused { IfErr result (λ refused. IsPlanRefused count engine.now.kept.used.items frame.now pages.now refused) }
+    ensures refused { IfErr result (λ refused. IsPlanRefused count engine.now.kept.used.items frame.now pages.items refused) }
 {
     let epoch = engine.kept.epoch + 1;
     let plan = match plan_commit(alloc, count, &engine.kept.used, epoch, frame, pages) {
@@ -149,7 +149,7 @@ pub fn ready_commit(alloc: Global, count: u64, engine: &Engine) -> Result<Ready,
         Ok(frozen) => frozen,
         Err(NoMemory) => return Err(RunAnswer::NoMemory),
     };
-    match plan_of(alloc, count, engine, &frame, &pages) {
+    match plan_of(alloc, count, engine, &frame, pages) {
         Ok(ready) => Ok(ready),
         Err(PlanRefused::Full { need, free }) => Err(RunAnswer::DiskFull { need, free }),
         Err(PlanRefused::NoMemory) => Err(RunAnswer::NoMemory),

@@ -3,17 +3,19 @@ ghost use Rattle.std.specs.Prelude.{◌≡◌, ◌⊎◌, ◌<◌, ◌≤◌, �
 ghost use Rattle.group_defs.specs.Group.{Group};
 ghost use Rattle.ckpt_chain.specs.Slot.{newest};
 ghost use Rattle.ckpt_chain.specs.declared.slot.SlotBody.{SlotBody};
+ghost use Rattle.ckpt_records.specs.Holds.{HoldsAt};
+ghost use Rattle.ckpt_records.specs.declared.meta.PagePlace.{PagePlace};
 ghost use Rattle.commit_gate.specs.Whole.{IsUnfinished, finished};
 ghost use Rattle.commit_gate.specs.declared.whole.Block.{Block};
-ghost use Rattle.solo_engine.specs.Keeping.{Kept, Keeps, Avoids, IsSoundAfter, KeepsOrHolds, target_after, epoch_after};
+ghost use Rattle.solo_engine.specs.Keeping.{Kept, Keeps, Avoids, KeepsOrHolds, target_after, epoch_after};
 
 /// An image of a commit that isn't done keeps what was kept, where the commit's blocks aren't used by that. At every moment
-/// of the commit of a sound plan an image keeps that, or holds the next epoch and the plan's group.
+/// of a commit that holds a group as the next epoch once it is finished, an image keeps that, or holds that group.
 pub fn commits_keep_or_replace()
     ensures unfinished { (count : ℕ) (kept : Kept) (blocks : List Block) (r image : List ℕ) → length r ≡ 4096 * count → Keeps r kept → Avoids count kept blocks
         → IsUnfinished (target_after kept) blocks r image → Keeps image kept }
-    ensures during { (count : ℕ) (kept : Kept) (h : Group) (blocks : List Block) (body : SlotBody) (r image : List ℕ) → length r ≡ 4096 * count → Keeps r kept → Avoids count kept blocks
-        → IsSoundAfter count kept h blocks body
+    ensures during { (count : ℕ) (kept : Kept) (h : Group) (pages : List PagePlace) (metas : List ℕ) (blocks : List Block) (body : SlotBody) (r image : List ℕ) → length r ≡ 4096 * count → Keeps r kept → Avoids count kept blocks
+        → HoldsAt (finished (target_after kept) blocks body r) (epoch_after kept) h pages metas (target_after kept)
         → IsUnfinished (target_after kept) blocks r image ⊎ (image ≡ finished (target_after kept) blocks body r) → KeepsOrHolds kept h image }
 {}
 

@@ -1,6 +1,6 @@
 //! What a commit writes, and where.
-ghost use Rattle.std.specs.Prelude.{◌+◌, ◌↔◌, Bool, IsTrue, ℕ, IfErr, IfNone, List, ◌≡◌, ◌≤◌, ◌<◌, ◌^◌, ◌++◌, IfOk, IfSome, length, map};
-ghost use Rattle.block_alloc.specs.Free.{MayBeFree, free_count, is_free};
+ghost use Rattle.std.specs.Prelude.{◌+◌, ℕ, IfErr, IfNone, List, ◌≡◌, ◌≤◌, ◌<◌, ◌^◌, ◌++◌, IfOk, IfSome, length, map};
+ghost use Rattle.block_alloc.specs.Free.{free_count};
 ghost use Rattle.ckpt_records.specs.Fits.{IsInForm};
 ghost use Rattle.ckpt_chain.specs.Chain.{first_of as first_number, laid};
 ghost use Rattle.ckpt_records.specs.Spelling.{record_bytes};
@@ -8,8 +8,8 @@ ghost use Rattle.commit_gate.specs.Whole.{numbers};
 ghost use Rattle.ckpt_records.specs.Holds.{IsCheckpointed};
 ghost use Rattle.group_defs.specs.Group.{Group};
 ghost use Rattle.solo_engine.specs.Keeping.{Avoids, Covers, IsPlan, Kept};
-ghost use Rattle.solo_engine.specs.Plans.{ArePagesOf, IsLaidOut, IsPlanRefused, needs, placed};
-ghost use Rattle.solo_engine.specs.Taking.{AreLaidIn, AreTaken, blocks_in};
+ghost use Rattle.solo_engine.specs.Plans.{ArePagesOf, IsLaidOut, IsPlanRefused, blocks_for, free_blocks, place_of, placed};
+ghost use Rattle.solo_engine.specs.Taking.{AreTaken, IsLaidAs, IsLaidIn, blocks_in};
 ghost use Rattle.std.specs.List.{AllByRecursion};
 
 use block_alloc::{Blocks, rebuild};
@@ -98,16 +98,16 @@ fn record_of(
     write_meta(alloc, frame, &places)
 }
 
-// The pages in these blocks.
-fn page_blocks(alloc: Global, numbers: &[u64], pages: &[Page]) -> Result<Vec<Block>, NoMemory>
-    requires { length numbers.now ≡ length pages.now }
-    ensures { IfOk result (λ blocks. blocks.items ≡ blocks_in numbers.now (map (λ p. p.bytes) pages.now)) }
+// The pages in these blocks. Their bytes aren't copied.
+fn page_blocks(alloc: Global, numbers: &[u64], pages: Vec<Page>) -> Result<Vec<Block>, NoMemory>
+    requires { length numbers.now ≡ length pages.items }
+    ensures { IfOk result (λ blocks. blocks.items ≡ blocks_in numbers.now (map (λ p. p.bytes) pages.items)) }
 {
     let mut blocks = Vec::new(alloc);
-    for (i, page) in pages.iter().enumerate() {
+    for page in pages {
         blocks.push(Block {
-            number: numbers[i],
-            bytes: Seq::of(Vec::from_slice(alloc, page.bytes.as_slice())?),
+            number: numbers[blocks.len()],
+            bytes: page.bytes,
         })?;
     }
     Ok(blocks)
@@ -137,62 +137,75 @@ fn first_block(numbers: &[u64]) -> u64
     }
 }
 
-// The pages in their blocks, and behind them a record's bytes in its meta blocks.
-fn all_blocks(
-    alloc: Global,
-    places: &[u64],
-    pages: &[Page],
-    metas: &[u64],
-    bytes: &[u8],
-) -> Result<Vec<Block>, NoMemory>
-    requires { length places.now ≡ length pages.now }
-    ensures numbers { IfOk result (λ blocks. numbers blocks.items ≡ places.now ++ metas.now) }
-    ensures bytes { IfOk result (λ blocks. map (λ b. b.bytes) blocks.items ≡ map (λ p. p.bytes) pages.now ++ laid bytes.now metas.now) }
-{
-    let mut blocks = page_blocks(alloc, places, pages)?;
-    let stream = lay_stream(alloc, bytes, metas)?;
-    let mut behind = meta_blocks(alloc, metas, &stream)?;
-    blocks.append(&mut behind)?;
-    Ok(blocks)
+/// Where a checkpoint lies: the blocks of its pages and those of its record, and the record's bytes.
+#[derive(Drop)]
+pub struct Layout {
+    pub places: Vec<u64>,
+    pub metas: Vec<u64>,
+    pub bytes: Vec<u8>,
 }
 
-// The plan in the least of the free blocks; none where too few are free.
-fn plan_in(
+// The least of the free blocks for pages and for the record of them and of a frame; none where too few are free.
+fn lay_out(
     alloc: Global,
     free: &mut Blocks,
-    epoch: u64,
     frame: &Frame,
     pages: &[Page],
-) -> Result<Option<Plan>, NoMemory>
+) -> Result<Option<Layout>, NoMemory>
     requires { IsInForm frame.now }
-    ensures laid { IfOk result (λ plan. IfSome plan (λ plan. AreLaidIn free.old epoch frame.now pages.now plan.blocks plan.body)) }
-    ensures none { IfOk result (λ plan. IfNone plan (free_count free.old < needs frame.now pages.now)) }
+    ensures laid { IfOk result (λ layout. IfSome layout (λ layout. IsLaidIn free.old frame.now pages.now layout)) }
+    ensures none { IfOk result (λ layout. IfNone layout (free_count free.old < blocks_for frame.now (map place_of pages.now))) }
 {
     let places = match take_blocks(alloc, free, pages.len())? {
         Some(places) => places,
         None => return Ok(None),
     };
-    let record = record_of(alloc, frame, pages, &places)?;
-    let metas = match take_blocks(alloc, free, record.len().div_ceil(PAYLOAD))? {
+    let bytes = record_of(alloc, frame, pages, &places)?;
+    let metas = match take_blocks(alloc, free, bytes.len().div_ceil(PAYLOAD))? {
         Some(metas) => metas,
         None => return Ok(None),
     };
-    let blocks = all_blocks(alloc, &places, pages, &metas, &record)?;
+    Ok(Some(Layout {
+        places,
+        metas,
+        bytes,
+    }))
+}
+
+// The pages in their blocks, and behind them the record's bytes in its meta blocks.
+fn all_blocks(alloc: Global, layout: &Layout, pages: Vec<Page>) -> Result<Vec<Block>, NoMemory>
+    requires { length layout.now.places.items ≡ length pages.items }
+    ensures numbers { IfOk result (λ blocks. numbers blocks.items ≡ layout.now.places.items ++ layout.now.metas.items) }
+    ensures bytes { IfOk result (λ blocks. map (λ b. b.bytes) blocks.items ≡ map (λ p. p.bytes) pages.items ++ laid layout.now.bytes.items layout.now.metas.items) }
+{
+    let mut blocks = page_blocks(alloc, &layout.places, pages)?;
+    let stream = lay_stream(alloc, &layout.bytes, &layout.metas)?;
+    let mut behind = meta_blocks(alloc, &layout.metas, &stream)?;
+    blocks.append(&mut behind)?;
+    Ok(blocks)
+}
+
+// The plan of a layout.
+fn plan_in(alloc: Global, layout: &Layout, epoch: u64, pages: Vec<Page>) -> Result<Plan, NoMemory>
+    requires { length layout.now.places.items ≡ length pages.items }
+    ensures { IfOk result (λ plan. IsLaidAs layout.now epoch pages.items plan.blocks plan.body) }
+{
+    let blocks = all_blocks(alloc, layout, pages)?;
     let body = SlotBody {
         epoch,
-        first: first_block(&metas),
-        length: record.len() as u64,
+        first: first_block(&layout.metas),
+        length: layout.bytes.len() as u64,
     };
-    Ok(Some(Plan {
+    Ok(Plan {
         blocks: Seq::of(blocks),
         body,
-    }))
+    })
 }
 
 // How many blocks a checkpoint needs: a record's length is the same wherever its pages lie.
 fn blocks_needed(alloc: Global, frame: &Frame, pages: &[Page]) -> Result<u64, NoMemory>
     requires { IsInForm frame.now }
-    ensures { IfOk result (λ need. need ≡ needs frame.now pages.now) }
+    ensures { IfOk result (λ need. need ≡ blocks_for frame.now (map place_of pages.now)) }
 {
     let mut anywhere = Vec::new(alloc);
     anywhere.resize(pages.len(), 0)?;
@@ -203,7 +216,7 @@ fn blocks_needed(alloc: Global, frame: &Frame, pages: &[Page]) -> Result<u64, No
 // Why there is no plan where so many blocks are free.
 fn full(alloc: Global, frame: &Frame, pages: &[Page], free: u64) -> PlanRefused
     requires { IsInForm frame.now }
-    ensures { (count : ℕ) (used : List ℕ) (flags : List Bool) → ((b : ℕ) → IsTrue (is_free flags b) ↔ MayBeFree count used b) → free ≡ free_count flags → free < needs frame.now pages.now → IsPlanRefused count used frame.now pages.now result }
+    ensures { (count : ℕ) (used : List ℕ) → free ≡ free_blocks count used → free < blocks_for frame.now (map place_of pages.now) → IsPlanRefused count used frame.now pages.now result }
 {
     match blocks_needed(alloc, frame, pages) {
         Ok(need) => PlanRefused::Full { need, free },
@@ -212,32 +225,36 @@ fn full(alloc: Global, frame: &Frame, pages: &[Page], free: u64) -> PlanRefused
 }
 
 /// The plan of a group's commit to a disk of so many blocks of which some are in use: its pages and then its meta blocks, in
-/// the least free blocks.
+/// the least free blocks. The pages' bytes become the blocks' without a copy.
 pub fn plan_commit(
     alloc: Global,
     count: u64,
     used: &[u64],
     epoch: u64,
     frame: &Frame,
-    pages: &[Page],
+    pages: Vec<Page>,
 ) -> Result<Plan, PlanRefused>
     requires least { 16 ≤ count }
     requires most { count ≤ 2 ^ 20 }
     requires form { IsInForm frame.now }
-    requires whole { AllByRecursion (λ p. length p.bytes ≡ 4096) pages.now }
-    ensures laid { IfOk result (λ plan. IsLaidOut count used.now epoch frame.now pages.now plan.blocks plan.body) }
-    ensures refused { IfErr result (λ refused. IsPlanRefused count used.now frame.now pages.now refused) }
+    requires whole { AllByRecursion (λ p. length p.bytes ≡ 4096) pages.items }
+    ensures laid { IfOk result (λ plan. IsLaidOut count used.now epoch frame.now pages.items plan.blocks plan.body) }
+    ensures refused { IfErr result (λ refused. IsPlanRefused count used.now frame.now pages.items refused) }
     ensures avoids { IfOk result (λ plan. (kept : Kept) → Covers used.now kept → Avoids count kept plan.blocks) }
-    ensures plan { IfOk result (λ plan. (g : Group) → g.frame ≡ frame.now → IsCheckpointed g → ArePagesOf g pages.now → IsPlan count used.now epoch g plan.blocks plan.body) }
+    ensures plan { IfOk result (λ plan. (g : Group) → g.frame ≡ frame.now → IsCheckpointed g → ArePagesOf g pages.items → IsPlan count used.now epoch g plan.blocks plan.body) }
 {
     let mut unused = match rebuild(alloc, count, used) {
         Ok(unused) => unused,
         Err(NoMemory) => return Err(PlanRefused::NoMemory),
     };
     let free = unused.free_count();
-    match plan_in(alloc, &mut unused, epoch, frame, pages) {
-        Ok(Some(plan)) => Ok(plan),
-        Ok(None) => Err(full(alloc, frame, pages, free)),
+    let layout = match lay_out(alloc, &mut unused, frame, &pages) {
+        Ok(Some(layout)) => layout,
+        Ok(None) => return Err(full(alloc, frame, &pages, free)),
+        Err(NoMemory) => return Err(PlanRefused::NoMemory),
+    };
+    match plan_in(alloc, &layout, epoch, pages) {
+        Ok(plan) => Ok(plan),
         Err(NoMemory) => Err(PlanRefused::NoMemory),
     }
 }

@@ -170,7 +170,7 @@ pub fn run_solo<D: Disk, O: Sink>(
     requires held { ForSome (D.view disk).reading (λ r. IsOriginOf r origin) }
     requires unworn { IsUnworn origin.epoch origin.parts.frame }
     requires count { IsWithin (O.view out) origin.parts.frame.out }
-    ensures { HasRun (run_of limits (group_of origin.parts) origin.epoch result.trace) result.acks (D.view disk) (D.view result.disk) (O.view out) (O.view result.out) result.answer }
+    ensures run { HasRun (run_of limits (group_of origin.parts) origin.epoch result.trace) result.acks (D.view disk) (D.view result.disk) (O.view out) (O.view result.out) result.answer }
 {
     let mut out = out;
     let mut log = Log::new(alloc);

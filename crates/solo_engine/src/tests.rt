@@ -28,10 +28,7 @@ fn no_frame(alloc: Global) -> Frame {
     }
 }
 
-#[test]
-fn a_page_and_a_record_take_the_least_free_blocks(rt: HostRuntime) -> Result<(), Fail> {
-    let alloc = rt.alloc();
-    let frame = no_frame(alloc);
+fn one_page(alloc: Global) -> Result<Vec<Page>, Fail> {
     let mut bytes = Vec::new(alloc);
     bytes.resize(4096, 7)?;
     let mut pages = Vec::new(alloc);
@@ -40,11 +37,18 @@ fn a_page_and_a_record_take_the_least_free_blocks(rt: HostRuntime) -> Result<(),
         page: 3,
         bytes: Seq::of(bytes),
     })?;
+    Ok(pages)
+}
+
+#[test]
+fn a_page_and_a_record_take_the_least_free_blocks(rt: HostRuntime) -> Result<(), Fail> {
+    let alloc = rt.alloc();
+    let frame = no_frame(alloc);
     if !is_in_form(&frame) {
         assert_eq!(rt; 0, 1);
         return Ok(());
     }
-    match plan_commit(alloc, 16, &[2, 4], 5, &frame, &pages) {
+    match plan_commit(alloc, 16, &[2, 4], 5, &frame, one_page(alloc)?) {
         Ok(plan) => {
             let blocks = plan.blocks.as_slice();
             assert_eq!(rt; blocks.len(), 2);
@@ -54,7 +58,7 @@ fn a_page_and_a_record_take_the_least_free_blocks(rt: HostRuntime) -> Result<(),
         Err(_) => assert_eq!(rt; 0, 1),
     }
     let all = [2, 3, 4, 5, 6, 7, 8, 9, 10, 11, 12, 13, 14];
-    match plan_commit(alloc, 16, &all, 5, &frame, &pages) {
+    match plan_commit(alloc, 16, &all, 5, &frame, one_page(alloc)?) {
         Ok(_) => assert_eq!(rt; 0, 1),
         Err(refused) => assert_eq!(rt; refused, PlanRefused::Full { need: 2, free: 1 }),
     }

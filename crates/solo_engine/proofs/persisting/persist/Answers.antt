@@ -1,11 +1,12 @@
-use Rattle.std.proofs.Common.{◌+◌, ap, ◌∙◌, subst, List, ◌∷◌, ◌++◌, []}
+use Rattle.std.proofs.Common.{◌≡◌, ◌+◌, ap, ◌∙◌, subst, List, ◌∷◌, ◌++◌, []}
 use Rattle.dev_traits.specs.Since.{LeavesOnly}
 use Rattle.group_defs.specs.declared.run.AckMark.{AckMark}
 use Rattle.group_defs.specs.declared.run.Mark.{Mark}
 use Rattle.group_defs.specs.declared.run.Mark.TheVariants.{Ack}
-use Rattle.commit_gate.specs.Whole.{IsDuring, Reads, finished}
+use Rattle.commit_gate.specs.Whole.{IsDuring, Reads, UpTo, calls_more, finished, write_calls}
 use Rattle.commit_gate.specs.declared.whole.Block.{Block}
 use Rattle.solo_engine.proofs.Committing.{leaves_kept}
+use Rattle.solo_engine.proofs.WriteLaws.{committed_calls, failed_calls}
 use Rattle.solo_engine.proofs.persisting.persist.Goals as goal
 
 pub returns-in-Ok-clause-committed : goal.returns-in-Ok-clause-committed
@@ -16,6 +17,7 @@ returns-in-Ok-clause-committed g c =
     let after = g.D.Disk.view c.in-Ok.disk in
     λ group ready. record {
       blocks = c.in-Ok.ensures.blocks;
+      writes = committed_calls group c.closes.result r.plan.blocks before.writes after.writes ready.plan.size (subst (λ (l : List Block). after.writes ≡ calls_more (write_calls c.closes.result l) before.writes) c.as_slice-blocks.ensures c.in-Ok.ensures.writes);
       later = c.in-Ok.ensures.images.later;
       faults = c.in-Ok.ensures.later;
       leaves = leaves_kept before.blocks group k r before after ready (λ bytes told. g.met.D.Disk.image_size c.args.disk _ bytes (g.met.D.Disk.reading_left c.args.disk bytes told))
@@ -35,6 +37,7 @@ returns-in-Err-clause-uncommitted g c =
     let after = g.D.Disk.view c.in-Err.bad.disk in
     λ group ready. record {
       blocks = c.in-Err.ensures.blocks_err;
+      writes = failed_calls group c.closes.result r.plan.blocks before.writes after.writes ready.plan.size (subst (λ (l : List Block). UpTo (write_calls c.closes.result l) before.writes after.writes) c.as_slice-blocks.ensures c.in-Err.ensures.writes_err);
       later = c.in-Err.ensures.images_err.later;
       leaves = leaves_kept before.blocks group k r before after ready (λ bytes told. g.met.D.Disk.image_size c.args.disk _ bytes (g.met.D.Disk.reading_left c.args.disk bytes told))
           (subst (λ (l : List Block). LeavesOnly before after (IsDuring k.target l r.plan.body before.reading)) c.as_slice-blocks.ensures c.in-Err.ensures.images_err);

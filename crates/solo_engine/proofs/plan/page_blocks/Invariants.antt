@@ -1,6 +1,12 @@
-use Rattle.std.proofs.Common.{◌≡◌, take, map}
+use Rattle.std.proofs.Common.{◌≡◌, ◌++◌, take, map, length}
+use Rattle.std.specs.Vec.Iter.{into_iter_items, into_iter_len}
 use Rattle.solo_engine.specs.Taking.{blocks_in}
 use Rattle.solo_engine.proofs.plan.page_blocks.Given as goal
 
-abbrev pub invariant-loop-i : goal.invariant-loop-i
-invariant-loop-i l = l.blocks.items ≡ blocks_in (take l.i l.numbers) (take l.i (map (λ p. p.bytes) l.pages))
+abbrev pub invariant-loop-page : goal.invariant-loop-page
+invariant-loop-page l = record {
+  all : l.yielded ++ into_iter_items l.page-iterator ≡ into_iter_items l.initial.page-iterator;
+  left : into_iter_len l.page-iterator ≡ length (into_iter_items l.page-iterator);
+  count : length l.blocks.items ≡ length l.yielded;
+  blocks : l.blocks.items ≡ blocks_in (take (length l.yielded) l.numbers) (map (λ p. p.bytes) l.yielded);
+}

@@ -18,7 +18,7 @@ returns-in-Err g c =
     let none = ends_unbegun c.args.limits disk.blocks o disk out c.requires.limits c.requires.origin c.requires.held c.requires.unworn c.requires.count c.requires.only in
     let logged = subst (λ (t : List Mark). HasRun (run_of c.args.limits (group_of o.parts) o.epoch t) c.new-log.result.acks.items disk disk out out NoMemory) (sym c.new-log.ensures.trace)
     (subst (λ (a : List AckMark). HasRun (run_of c.args.limits (group_of o.parts) o.epoch []) a disk disk out out NoMemory) (sym c.new-log.ensures.acks) none) in
-    subst (λ (r : Run g.row.D.Denot g.row.O.Denot). HasRun (run_of c.args.limits (group_of o.parts) o.epoch r.trace) r.acks disk (g.D.Disk.view r.disk) out (g.O.Sink.view r.out) r.answer) (sym c.ended.ensures) logged
+    record { run = subst (λ (r : Run g.row.D.Denot g.row.O.Denot). HasRun (run_of c.args.limits (group_of o.parts) o.epoch r.trace) r.acks disk (g.D.Disk.view r.disk) out (g.O.Sink.view r.out) r.answer) (sym c.ended.ensures) logged }
 
 pub go-disk-requires-clause-kept : goal.go-disk-requires-clause-kept
 go-disk-requires-clause-kept g c =
