@@ -122,7 +122,7 @@ fn is_zero(page: &[u8]) -> bool
     page.iter().all(|b| *b == 0)
 }
 
-fn page_of(alloc: Global, object: u64, page: u64, bytes: &[u8]) -> Result<Page, NoMemory>
+fn frozen_page(alloc: Global, object: u64, page: u64, bytes: &[u8]) -> Result<Page, NoMemory>
     ensures { IfOk result (λ p. p ≡ record { object = object; page = page; bytes = bytes.now }) }
 {
     Ok(Page {
@@ -144,7 +144,7 @@ fn add_object(
     for page in 0..bytes.len() / PAGE {
         let bytes = &bytes[PAGE * page..PAGE * page + PAGE];
         if !is_zero(bytes) {
-            pages.push(page_of(alloc, object, page as u64, bytes)?)?;
+            pages.push(frozen_page(alloc, object, page as u64, bytes)?)?;
         }
     }
     Ok(())
