@@ -48,23 +48,23 @@ EndsFor run disk disk' out out' SinkFault = Rose out.faults out'.faults
 EndsFor run disk disk' out out' (DiskFull need free) = IsDiskFull run disk' need free
 EndsFor run disk disk' out out' NoMemory = ⊤
 
--- the epochs of the Fetches
+-- the epoch of a Fetch
 abbrev pub fetched_epoch : Mark → Option ℕ
 fetched_epoch (Fetch epoch) = Some epoch
 fetched_epoch m = None
 
--- the write calls of the commit of an epoch's group, where the trace has its barrier
+-- how many write calls the commit of an epoch's group may make; none where the run has no group of that epoch
 abbrev pub calls_of : RunSoFar → ℕ → ℕ
 calls_of run epoch = elim (group_of run.limits.quantum run.start run.origin run.trace epoch) [ None ↦ 0 | Some g ↦ calls_for g ]
 
--- ... and of the commits of all epochs that the trace fetches
+-- how many the commits of all epochs may make that the trace fetches
 abbrev pub writes_allowed : RunSoFar → ℕ
 writes_allowed run = sum_by (calls_of run) (filter_map fetched_epoch run.trace)
 
 -- What a run has done so far, whose disk and output were these at its start.
 pub record StandsSafe (run : RunSoFar) (acks : List AckMark) (disk disk' : DiskView) (out out' : SinkView) : Type 0 where
   pub blocks : disk'.blocks ≡ disk.blocks
-  -- on every disk, told or not
+  -- the write calls, on every disk, told or not
   pub writes : disk'.writes ≤ disk.writes + writes_allowed run
   -- the disk that comes back, where the disk tells its bytes
   pub safe : ForSome disk.reading (λ r. Safe run disk.moment acks disk disk')

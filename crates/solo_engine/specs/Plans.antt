@@ -56,7 +56,7 @@ unplaced page = record { object = page.0; page = page.1; block = 0 }
 abbrev pub blocks_for : Frame → List (ℕ × ℕ) → ℕ
 blocks_for f pages = length pages + metas_for (length (record_bytes f (map unplaced pages)))
 
--- ... and one of a group, whose pages of zeros aren't written
+-- how many a group's checkpoint takes: one for each page that isn't all zero, and its meta blocks
 abbrev pub cost_of : Group → ℕ
 cost_of g = blocks_for g.frame (nonzero_pages g)
 
@@ -69,7 +69,7 @@ calls_for g = cost_of g + 3
 abbrev pub is_used : List ℕ → ℕ → Bool
 is_used used block = list_any (λ u. u == block) used
 
--- how many blocks behind the slots of a disk of so many blocks aren't
+-- how many blocks behind the slots of a disk of so many blocks aren't in use
 abbrev pub free_blocks : ℕ → List ℕ → ℕ
 free_blocks count used = count_by (λ b. not (is_used used b)) (range_with_len 2 (count - 2))
 

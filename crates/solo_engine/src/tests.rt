@@ -1,3 +1,6 @@
+ghost use Rattle.std.specs.Prelude.{◌≡◌, IfOk, length};
+ghost use Rattle.std.specs.List.{AllByRecursion};
+
 use crate::{Page, PlanRefused, plan_commit};
 use ckpt_records::is_in_form;
 use group_defs::{Frame, Next, Out};
@@ -28,7 +31,9 @@ fn no_frame(alloc: Global) -> Frame {
     }
 }
 
-fn one_page(alloc: Global) -> Result<Vec<Page>, Fail> {
+fn one_page(alloc: Global) -> Result<Vec<Page>, Fail>
+    ensures { IfOk result (λ pages. AllByRecursion (λ p. length p.bytes ≡ 4096) pages.items) }
+{
     let mut bytes = Vec::new(alloc);
     bytes.resize(4096, 7)?;
     let mut pages = Vec::new(alloc);
