@@ -61,7 +61,7 @@ barrier_found marks rest e =
 none_more : (p : Mark → Bool) (ms : List Mark) (m : Mark) → list_any p ms ≡ false → p m ≡ false → list_any p (ms ++ m ∷ []) ≡ false
 none_more p ms m none no_hit = list_any-append p ms (m ∷ []) ∙ ap (λ (t : Bool). t || (p m || false)) none ∙ ap (λ (t : Bool). t || false) no_hit
 
-none_of_more : (e : ℕ) (ms : List Mark) (m : Mark) → NoneOf e ms → is_barrier_of e m ≡ false → is_fetch_of e m ≡ false → is_ack_of e m ≡ false → NoneOf e (ms ++ m ∷ [])
+pub none_of_more : (e : ℕ) (ms : List Mark) (m : Mark) → NoneOf e ms → is_barrier_of e m ≡ false → is_fetch_of e m ≡ false → is_ack_of e m ≡ false → NoneOf e (ms ++ m ∷ [])
 none_of_more e ms m none b f a = (none_more (is_barrier_of e) ms m none.0 b, none_more (is_fetch_of e) ms m none.1 f, none_more (is_ack_of e) ms m none.2 a)
 
 turns_same : (ms : List Mark) (m : Mark) → is_turn m ≡ false → turns_in (ms ++ m ∷ []) ≡ turns_in ms

@@ -45,6 +45,7 @@ use Rattle.solo_engine.proofs.GateLaws.{gates_after}
 use Rattle.solo_engine.proofs.Outputs.{barrier_reaches, between_none, last_is, mark_above, mark_below, mark_of_group, released as released_piece, start_released}
 use Rattle.solo_engine.proofs.Pieces.{takes_none}
 use Rattle.solo_engine.proofs.Standing.{IsCommitting, IsKeptAt, IsKeptBy, Reached, acks_below, acks_later, acks_longer, acks_more, first_before, kept_acked, kept_longer, longer, one_during, one_longer, reached_longer, reached_more, released, safe_acked, safe_during, safe_longer}
+use Rattle.solo_engine.proofs.PromptLaws.{Covered, IsBehind, behind_ack, behind_fetch, behind_turns, covered_first, covered_more, covered_next, covered_up, prompt_first, prompt_of}
 use Rattle.solo_engine.proofs.WriteLaws.{allowed_fetched, allowed_longer}
 
 -- what a run needs of its start and its limits
@@ -77,6 +78,8 @@ pub record IsGoing (limits : Limits) (start : Group) (origin : ℕ) (disk0 : Dis
   pub last : last_acked (run_of limits start origin trace) acks ≡ k.epoch
   pub reached : Reached (run_of limits start origin trace) out0 out g.frame.out.mark
   pub out_at : out.count ≡ g.frame.out.mark
+  -- what each barrier up to the last covers is out
+  pub covered : Covered (run_of limits start origin trace) k.epoch g.frame.out.mark
 
 rose_later : (a b c : ℕ) → a ≤ b → Rose b c → Rose a c
 rose_later a b c le rose = omega (arith, le, rose)
@@ -131,11 +134,12 @@ module _ (limits : Limits) (start : Group) (origin : ℕ) (s : IsStart limits st
       ap (λ (e : ℕ). mark_of limits.quantum start origin (trace ++ more) e) going.last
       ∙ mark_of_group limits.quantum start origin (trace ++ more) k.epoch g (group_of_more limits.quantum start origin trace more k.epoch g going.group_is)
 
-  stands_on : (more : List Mark) → filter_map acked_epoch more ≡ [] → StandsSafe (run_of limits start origin (trace ++ more)) acks disk0 disk out0 out
+  stands_on : (more : List Mark) → IsBehind k.epoch more → filter_map acked_epoch more ≡ [] → StandsSafe (run_of limits start origin (trace ++ more)) acks disk0 disk out0 out
   unfolding run
-  stands_on more none =
+  stands_on more behind none =
       stands_longer run more acks disk0 disk out0 out none going.safe
-      (released (longer run more) acks out0 out g.frame.out.mark g.frame.out.mark (reached_longer run more out0 out g.frame.out.mark going.reached) (mark_is more) (omega arith))
+      (released (longer run more) acks out0 out g.frame.out.mark g.frame.out.mark (reached_longer run more out0 out g.frame.out.mark going.reached) (mark_is more) (omega arith)
+      (prompt_of (longer run more) k.epoch g.frame.out.mark (covered_more run more k.epoch g.frame.out.mark going.covered behind)))
 
   -- a stop now leaves what was acknowledged last
   keeps_last : (kept : Kept) (more : List Mark) (image : List ℕ) → IsKeptBy (run_of limits start origin trace) acks kept → Keeps image kept → KeepsLast (run_of limits start origin (trace ++ more)) acks image
@@ -156,7 +160,7 @@ module _ (limits : Limits) (start : Group) (origin : ℕ) (s : IsStart limits st
       let l = stop.longer in
       let at : HasRun (run_of limits start origin (trace ++ l.more)) acks disk0 disk out0 out NoMemory =
       prefix_of limits start origin s (trace ++ l.more) (let P : List Mark → Type 0 = λ x. IsSoloSoFar start origin limits x in subst P l.trace_is (stop.so_far start origin k.epoch going.stands))
-      acks disk0 disk out0 out NoMemory (stands_on l.more l.unacked) (λ other. current_on l.more) tt in
+      acks disk0 disk out0 out NoMemory (stands_on l.more (behind_turns k.epoch l.more l.none) l.unacked) (λ other. current_on l.more) tt in
       subst (λ (x : List Mark). HasRun (run_of limits start origin x) acks disk0 disk out0 out NoMemory) (sym l.trace_is) at
 
   -- ---- a barrier that is fetched
@@ -186,11 +190,19 @@ module _ (limits : Limits) (start : Group) (origin : ℕ) (s : IsStart limits st
     unfolding behind
     unacked = filter_map-append acked_epoch f.comes.turned.longer.more (Barrier (k.epoch + 1) ∷ Fetch (k.epoch + 1) ∷ []) ∙ ap (λ (l : List ℕ). l ++ []) f.comes.turned.longer.unacked
 
+    is_behind : IsBehind k.epoch behind
+    unfolding behind
+    is_behind = behind_fetch k.epoch f.comes.turned.longer.more f.comes.turned.longer.none
+
+    covered_fetched : Covered (run_of limits start origin trace') k.epoch g.frame.out.mark
+    unfolding run
+    covered_fetched = subst (λ (x : List Mark). Covered (run_of limits start origin x) k.epoch g.frame.out.mark) (sym trace_is) (covered_more run behind k.epoch g.frame.out.mark going.covered is_behind)
+
     run' : RunSoFar
     run' = run_of limits start origin trace'
 
     pub stands_fetched : StandsSafe (run_of limits start origin trace') acks disk0 disk out0 out
-    stands_fetched = subst (λ (x : List Mark). StandsSafe (run_of limits start origin x) acks disk0 disk out0 out) (sym trace_is) (stands_on behind unacked)
+    stands_fetched = subst (λ (x : List Mark). StandsSafe (run_of limits start origin x) acks disk0 disk out0 out) (sym trace_is) (stands_on behind is_behind unacked)
 
     current_fetched : ForSome disk0.reading (λ r. (image : List ℕ) → LeftNow disk image → KeepsLast (run_of limits start origin trace') acks image)
     current_fetched = subst (λ (x : List Mark). ForSome disk0.reading (λ r. (image : List ℕ) → LeftNow disk image → KeepsLast (run_of limits start origin x) acks image)) (sym trace_is) (current_on behind)
@@ -435,8 +447,14 @@ module _ (limits : Limits) (start : Group) (origin : ℕ) (s : IsStart limits st
         mark_far : g'.frame.out.mark ≡ g.frame.out.mark + length g'.frame.out.bytes
         mark_far = omega (arith, f.checkpointed.all_marked, f.from_is)
 
+        covered_acked : Covered (run_of limits start origin trace'') k.epoch g.frame.out.mark
+        covered_acked = subst (λ (x : List Mark). Covered (run_of limits start origin x) k.epoch g.frame.out.mark) (sym done.trace_is) (covered_more (run_of limits start origin trace') (Ack (k.epoch + 1) ∷ []) k.epoch g.frame.out.mark covered_fetched (behind_ack k.epoch (k.epoch + 1)))
+
+        covered_on : (m : ℕ) → Covered (run_of limits start origin trace'') k.epoch (g.frame.out.mark + m)
+        covered_on m = covered_up (run_of limits start origin trace'') k.epoch g.frame.out.mark (g.frame.out.mark + m) covered_acked (omega arith)
+
         released_on : (out' : SinkView) (m : ℕ) → m ≤ length g'.frame.out.bytes → Takes (take m g'.frame.out.bytes) out out' → Released (run_of limits start origin trace'') acks' out0 out'
-        released_on out' m le taken = released (run_of limits start origin trace'') acks' out0 out' (g.frame.out.mark + m) g'.frame.out.mark (reached_on out' m le taken) mark_after (omega (arith, mark_far, le))
+        released_on out' m le taken = released (run_of limits start origin trace'') acks' out0 out' (g.frame.out.mark + m) g'.frame.out.mark (reached_on out' m le taken) mark_after (omega (arith, mark_far, le)) (prompt_of (run_of limits start origin trace'') k.epoch (g.frame.out.mark + m) (covered_on m))
 
         -- the output failed
         pub unreleased : (out' : SinkView) → ReleasesPart g'.frame.out out out' → HasRun (run_of limits start origin trace'') acks' disk0 disk' out0 out' SinkFault
@@ -474,6 +492,8 @@ module _ (limits : Limits) (start : Group) (origin : ℕ) (s : IsStart limits st
               last = kept_is'.last ∙ sym is_ready.next.epoch;
               reached = subst (λ (n : ℕ). Reached (run_of limits start origin trace'') out0 out' n) (sym mark_far) (reached_on out' (length g'.frame.out.bytes) (omega arith) all);
               out_at = omega (arith, count, going.out_at, mark_far);
+              covered = subst (λ (e : ℕ). Covered (run_of limits start origin trace'') e g'.frame.out.mark) (sym is_ready.next.epoch)
+                  (covered_next (run_of limits start origin trace'') k.epoch g.frame.out.mark g'.frame.out.mark covered_acked (mark_of_group limits.quantum start origin trace'' (k.epoch + 1) g' group_at') (omega (arith, mark_far)));
             }
 
   -- ---- the end
@@ -587,7 +607,7 @@ module _ (limits : Limits) (start : Group) (epoch : ℕ) (s : IsStart limits sta
   rest_size = omega (arith, least, most, s.checkpointed.all_marked, length-drop (out.count - start.frame.out.from) start.frame.out.bytes)
 
   released_first : (out' : SinkView) (m : ℕ) → m ≤ length (rest_of start.frame.out out) → Takes (take m (rest_of start.frame.out out)) out out' → Released (run_of limits start epoch []) [] out out'
-  released_first out' m le taken = released (run_of limits start epoch []) [] out out' (out.count + m) start.frame.out.mark (reached_first out' m le taken) mark_first (omega (arith, le, rest_size))
+  released_first out' m le taken = released (run_of limits start epoch []) [] out out' (out.count + m) start.frame.out.mark (reached_first out' m le taken) mark_first (omega (arith, le, rest_size)) (prompt_first limits start epoch (out.count + m))
 
   -- the output failed at once
   pub unreleased_first : (out' : SinkView) → ReleasesPart start.frame.out out out' → HasRun (run_of limits start epoch []) [] disk disk out out' SinkFault
@@ -627,4 +647,5 @@ module _ (limits : Limits) (start : Group) (k : KeptBlocks) (s : IsStart limits 
         last = refl;
         reached = subst (λ (m : ℕ). Reached (run_of limits start k.epoch []) out out' m) (rest_size limits start k.epoch s disk out only kept knows.epoch first keeps least most) (reached_first limits start k.epoch s disk out only kept knows.epoch first keeps least most out' n (omega arith) all);
         out_at = omega (arith, r.taken.count, rest_size limits start k.epoch s disk out only kept knows.epoch first keeps least most);
+        covered = covered_first limits start k.epoch;
       }

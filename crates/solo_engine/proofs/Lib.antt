@@ -10,6 +10,7 @@ mod FreeLaws
 mod Pieces
 mod Standing
 mod WriteLaws
+mod PromptLaws
 mod Between
 mod Outputs
 mod GateLaws

@@ -19,7 +19,7 @@ use Rattle.ckpt_records.specs.Holds.{Holds, HoldsAt}
 use Rattle.ckpt_records.specs.declared.meta.PagePlace.{PagePlace}
 use Rattle.solo_engine.specs.Going.{output_between}
 use Rattle.solo_engine.specs.Keeping.{Kept, nothing, checkpoint, Keeps, KeepsOrHolds, epoch_after, target_after}
-use Rattle.solo_engine.specs.Safe.{RunSoFar, run_of, HoldsBarrier, HoldsOne, Safe, AreAcks, NeverFall, Released, last_epoch, last_acked, output_of}
+use Rattle.solo_engine.specs.Safe.{IsPrompt, RunSoFar, run_of, HoldsBarrier, HoldsOne, Safe, AreAcks, NeverFall, Released, last_epoch, last_acked, output_of}
 use Rattle.solo_engine.proofs.Between.{any_more, group_of_more}
 use Rattle.restore_group.proofs.Ordered.{each_append, each_both, each_weaker}
 use Rattle.solo_engine.proofs.Outputs.{between_front, between_joins, between_length, between_none, between_stays, output_more}
@@ -297,5 +297,5 @@ reached_more run before after after' to last m bytes r there is le taken =
     reach to last m n a b c = omega (arith, a, b, c)
 
 -- what was reached is what a run may have released
-pub released : (run : RunSoFar) (acks : List AckMark) (before after : SinkView) (to mark : ℕ) → Reached run before after to → mark_of run.limits.quantum run.start run.origin run.trace (last_acked run acks) ≡ Some mark → to ≤ mark → Released run acks before after
-released run acks before after to mark r is le = record { to = to; mark = mark; mark_is = is; least = r.least; most = le; taken = r.taken }
+pub released : (run : RunSoFar) (acks : List AckMark) (before after : SinkView) (to mark : ℕ) → Reached run before after to → mark_of run.limits.quantum run.start run.origin run.trace (last_acked run acks) ≡ Some mark → to ≤ mark → IsPrompt run to → Released run acks before after
+released run acks before after to mark r is le prompt = record { to = to; mark = mark; mark_is = is; least = r.least; most = le; prompt = prompt; taken = r.taken }

@@ -22,7 +22,7 @@ use Rattle.ckpt_records.specs.Holds.{IsCheckpointed}
 use Rattle.commit_gate.specs.Whole.{Reads, finished, numbers}
 use Rattle.commit_gate.specs.declared.whole.Block.{Block}
 use Rattle.ckpt_chain.specs.declared.slot.SlotBody.{SlotBody}
-use Rattle.solo_engine.specs.Going.{StandsAt}
+use Rattle.solo_engine.specs.Going.{NoneOf, StandsAt}
 use Rattle.solo_engine.specs.Keeping.{Kept, nothing, checkpoint, Keeps, KeepsOrHolds, IsPlan}
 use Rattle.solo_engine.specs.Known.{IsAfter, Knows}
 use Rattle.solo_engine.specs.Plans.{calls_for, cost_of, free_blocks}
@@ -31,10 +31,11 @@ use Rattle.solo_engine.specs.declared.kept.KeptBlocks.{KeptBlocks}
 use Rattle.solo_engine.specs.declared.run.RunAnswer.{RunAnswer}
 use Rattle.solo_engine.specs.declared.run.RunAnswer.TheVariants.{Done, Stuck, Spent, DiskFault, SinkFault, DiskFull, NoMemory}
 
--- marks more, none of which is an acknowledgement
+-- marks more, none of which is of a barrier
 pub record IsLonger (trace trace' : List Mark) : Type 0 where
   pub more : List Mark
   pub trace_is : trace' ≡ trace ++ more
+  pub none : (epoch : ℕ) → NoneOf epoch more
   pub unacked : filter_map acked_epoch more ≡ []
 
 -- Some turns were made: the trace is the beginning of a run on one thread.

@@ -1,5 +1,5 @@
 -- What a run leaves: on its disk, whenever that stops, and at the output.
-use Rattle.std.specs.Prelude.{◌≡◌, ◌⊎◌, ◌≤◌, ℕ, Bool, true, false, List, [], ◌∷◌, map, Some, None, IsTrue}
+use Rattle.std.specs.Prelude.{◌≡◌, ◌⊎◌, ◌≤◌, ◌+◌, ℕ, Bool, true, false, List, [], ◌∷◌, map, Some, None, IsTrue}
 use Rattle.std.specs.List.{list_any, filter_map, AllByRecursion}
 use Rattle.dev_traits.specs.Disk.{DiskView, LeftNow}
 use Rattle.dev_traits.specs.Outside.{SinkView, Takes}
@@ -11,7 +11,7 @@ use Rattle.group_defs.specs.Ends.{IsSettled}
 use Rattle.group_defs.specs.Group.{Group}
 use Rattle.group_defs.specs.Output.{last_position}
 use Rattle.group_defs.specs.Solo.{IsSoloTrace}
-use Rattle.group_defs.specs.Trace.{IsGroupOf, group_after, is_barrier_of, mark_of, acked_epoch}
+use Rattle.group_defs.specs.Trace.{IsGroupOf, group_after, is_barrier_of, mark_of, acked_epoch, is_fetch_of}
 use Rattle.ckpt_chain.specs.Slot.{newest}
 use Rattle.ckpt_records.specs.Holds.{Holds}
 use Rattle.solo_engine.specs.Going.{output_between}
@@ -88,6 +88,12 @@ KeepsLast run acks image =
     ((g : Group) × IsGroupOf run.limits.quantum run.start run.origin run.trace (last_acked run acks) g × Holds image (last_acked run acks) g)
     ⊎ ((run.origin ≡ 0) × (acks ≡ []) × (newest image ≡ None))
 
+-- Up to this position the output got what the run's own checkpoint covers before the first mark, and what each epoch's covers before
+-- the next one was fetched.
+pub record IsPrompt (run : RunSoFar) (to : ℕ) : Type 0 where
+  pub begun : (run.trace ≡ []) ⊎ (run.start.frame.out.mark ≤ to)
+  pub fetched : (epoch mark : ℕ) → IsTrue (list_any (is_fetch_of (epoch + 1)) run.trace) → mark_of run.limits.quantum run.start run.origin run.trace epoch ≡ Some mark → mark ≤ to
+
 -- The output got what the trace produced from its count on, up to a position that the last acknowledged barrier covers. The rest stays.
 pub record Released (run : RunSoFar) (acks : List AckMark) (before after : SinkView) : Type 0 where
   pub to : ℕ
@@ -95,6 +101,7 @@ pub record Released (run : RunSoFar) (acks : List AckMark) (before after : SinkV
   pub mark_is : mark_of run.limits.quantum run.start run.origin run.trace (last_acked run acks) ≡ Some mark
   pub least : before.count ≤ to
   pub most : to ≤ mark
+  pub prompt : IsPrompt run to
   pub taken : Takes (output_of run before.count to) before after
 
 -- The run ended by itself: its trace is the whole one of a run on one thread, and settled, and the output has everything.
