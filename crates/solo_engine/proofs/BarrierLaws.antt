@@ -1,5 +1,5 @@
 -- A valid group is valid after a barrier, and may be a checkpoint's.
-use Rattle.std.proofs.Common.{◌≡◌, ℕ, ◌+◌, ◌-◌, ◌^◌, ◌<◌, ◌≤◌, List, length, drop, All, refl, ap, ◌∙◌, arith, length-drop}
+use Rattle.std.proofs.Common.{◌≡◌, ℕ, ◌-◌, ◌^◌, ◌<◌, ◌≤◌, length, drop, arith, length-drop}
 use Rattle.std.proofs.lemmas.List.Elements.{All-drop}
 use Rattle.group_defs.specs.declared.frame.Frame.{Frame}
 use Rattle.group_defs.specs.declared.frame.Out.{Out}
@@ -13,7 +13,6 @@ use Rattle.group_defs.specs.Sizes.{MemoryFits}
 use Rattle.group_defs.specs.Streams.{StreamsValid}
 use Rattle.group_defs.specs.Trace.{barrier}
 use Rattle.group_defs.specs.Valid.{FrameValid, GroupIsValid, OutValid}
-use Rattle.ckpt_records.specs.Fits.{HasEnd, IsInForm}
 use Rattle.ckpt_records.specs.Holds.{IsCheckpointed}
 use Rattle.solo_engine.specs.Engine.{IsRunnable}
 

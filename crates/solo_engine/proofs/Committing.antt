@@ -1,17 +1,14 @@
 -- A planned commit: what stops leave, and what its calls need.
-use Rattle.std.proofs.Common.{◌≡◌, ◌⊎◌, ℕ, ◌+◌, ◌*◌, ◌≤◌, List, [], ◌∷◌, length, Some, refl, sym, ap, ◌∙◌, subst, arith}
-use Rattle.std.specs.Prelude.{◌↔◌, IsTrue, slice_index}
-use Rattle.std.specs.List.{AllByRecursion}
+use Rattle.std.proofs.Common.{◌≡◌, ◌⊎◌, ℕ, ◌*◌, List, length, Some, sym, ◌∙◌, subst}
+use Rattle.std.specs.Prelude.{◌↔◌, slice_index}
 use Rattle.std.specs.Option.{ForSome}
-use Rattle.dev_traits.specs.Disk.{DiskView, OnlyReading}
+use Rattle.dev_traits.specs.Disk.{DiskView}
 use Rattle.dev_traits.specs.Since.{LeavesOnly, weaker}
 use Rattle.group_defs.specs.Group.{Group}
-use Rattle.ckpt_chain.specs.Chain.{Has}
 use Rattle.ckpt_chain.specs.Slot.{gate_place}
 use Rattle.ckpt_chain.specs.declared.slot.Slot.{Slot}
 use Rattle.ckpt_records.specs.Holds.{HoldsAt}
-use Rattle.commit_gate.specs.Whole.{IsDuring, IsPlaced, IsUnfinished, finished}
-use Rattle.commit_gate.specs.declared.whole.Block.{Block}
+use Rattle.commit_gate.specs.Whole.{IsDuring, IsUnfinished, finished}
 use Rattle.solo_engine.specs.Interval.{IsReady, LeavesKept}
 use Rattle.solo_engine.specs.Keeping.{Covers, Keeps, KeepsOrHolds, Kept, epoch_after, target_after}
 use Rattle.solo_engine.specs.Known.{Knows, KnowsGates, gate_in}

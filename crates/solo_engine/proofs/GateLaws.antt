@@ -1,8 +1,8 @@
 -- The gate bytes once a commit is finished.
-use Rattle.std.proofs.Common.{◌≡◌, inl, inr, ℕ, ◌+◌, ◌*◌, ◌<◌, ◌≤◌, List, [], ◌∷◌, length, refl, ◌∙◌, ap, subst, sym, arith}
+use Rattle.std.proofs.Common.{◌≡◌, ℕ, ◌+◌, ◌*◌, ◌≤◌, List, [], ◌∷◌, length, refl, ◌∙◌, ap, subst, sym, arith}
 use Rattle.std.specs.Prelude.{slice_index}
 use Rattle.std.specs.List.{AllByRecursion}
-use Rattle.lists.specs.Bytes.{IsOutside, length-put, put, put_above, put_below, put_within}
+use Rattle.lists.specs.Bytes.{length-put, put, put_above, put_below, put_within}
 use Rattle.ckpt_chain.specs.Slot.{body_bytes, gate_place}
 use Rattle.ckpt_chain.specs.declared.slot.Slot.{Slot}
 use Rattle.ckpt_chain.specs.declared.slot.Slot.TheVariants.{A, B}

@@ -1,6 +1,5 @@
 -- A run between two of its intervals, and what each part of the next one makes of it.
-use Rattle.std.proofs.Common.{◌≡◌, ◌≢◌, ◌⊎◌, inl, inr, ⊎_elim, ℕ, zero, suc, ◌+◌, ◌-◌, ◌*◌, ◌^◌, ◌<◌, ◌≤◌, ◌==◌, ◌||◌, Bool, true, false, List, [], ◌∷◌, ◌++◌, map, length, take, drop, Option, Some, None, IsTrue, refl, sym, ap, subst, ◌∙◌, arith, append-nil, append_assoc, length-append, length-drop}
-use Rattle.std.specs.Prelude.{◌↔◌, IfSome}
+use Rattle.std.proofs.Common.{◌≡◌, ◌⊎◌, inl, inr, ⊎_elim, ℕ, ◌+◌, ◌-◌, ◌*◌, ◌^◌, ◌≤◌, ◌==◌, ◌||◌, Bool, true, false, List, [], ◌∷◌, ◌++◌, length, take, drop, Option, Some, None, IsTrue, refl, sym, ap, subst, ◌∙◌, arith, append-nil, append_assoc, length-drop}
 use Rattle.std.specs.List.{list_any, filter_map, AllByRecursion}
 use Rattle.std.specs.Option.{ForSome, option_map}
 use Rattle.std.proofs.lemmas.List.{take_all}
@@ -13,36 +12,33 @@ use Rattle.dev_traits.specs.Outside.{SinkView, Takes}
 use Rattle.group_defs.specs.declared.run.AckMark.{AckMark}
 use Rattle.group_defs.specs.declared.run.Limits.{Limits}
 use Rattle.group_defs.specs.declared.run.Mark.{Mark}
-use Rattle.group_defs.specs.declared.run.Mark.TheVariants.{Take, Turn, Barrier, Fetch, Ack}
-use Rattle.group_defs.specs.Ends.{IsDone, IsStuck, IsSpent}
+use Rattle.group_defs.specs.declared.run.Mark.TheVariants.{Barrier, Fetch, Ack}
+use Rattle.group_defs.specs.Ends.{IsDone, IsStuck}
 use Rattle.group_defs.specs.Group.{Group}
 use Rattle.group_defs.specs.Legal.{ready}
 use Rattle.group_defs.specs.Output.{last_position}
 use Rattle.group_defs.specs.Solo.{IsSoloSoFar, IsSoloTrace}
-use Rattle.group_defs.specs.Trace.{IsGroupOf, barrier, group_after, is_ack_of, is_barrier_of, is_fetch_of, group_of, mark_of, output, acked_epoch, is_fetch}
+use Rattle.group_defs.specs.Trace.{IsGroupOf, is_ack_of, is_barrier_of, is_fetch_of, group_of, mark_of, output, acked_epoch, is_fetch}
 use Rattle.group_defs.specs.Valid.{OutValid}
 use Rattle.ckpt_chain.specs.Chain.{Has}
-use Rattle.ckpt_chain.specs.Slot.{gate_place, newest}
 use Rattle.ckpt_chain.specs.declared.slot.Slot.{Slot}
-use Rattle.ckpt_chain.specs.declared.slot.SlotBody.{SlotBody}
-use Rattle.ckpt_records.specs.Holds.{Holds, HoldsAt, IsCheckpointed, block_numbers}
-use Rattle.commit_gate.specs.Whole.{IsPlaced, Reads, finished, numbers}
-use Rattle.commit_gate.specs.declared.whole.Block.{Block}
-use Rattle.solo_engine.specs.Answers.{EndsFor, HasFree, HasRun, IsDiskFull, StandsSafe, writes_allowed}
-use Rattle.solo_engine.specs.Going.{StandsAt, fetched, acknowledged, output_between}
-use Rattle.solo_engine.specs.Interval.{EndsIn, IsCommitted, IsDue, IsFetched, IsFirstKept, IsLonger, IsReady, IsUncommitted, IsUnplanned, LeavesKept, NeedsMore, ReleasesPart, ReleasesRest, StopsTurning, rest_of}
+use Rattle.ckpt_records.specs.Holds.{Holds, HoldsAt, IsCheckpointed}
+use Rattle.commit_gate.specs.Whole.{IsPlaced, finished, numbers}
+use Rattle.solo_engine.specs.Answers.{EndsFor, HasRun, StandsSafe, writes_allowed}
+use Rattle.solo_engine.specs.Going.{StandsAt, output_between}
+use Rattle.solo_engine.specs.Interval.{EndsIn, IsCommitted, IsFetched, IsFirstKept, IsReady, IsUncommitted, IsUnplanned, LeavesKept, ReleasesPart, ReleasesRest, StopsTurning, rest_of}
 use Rattle.solo_engine.specs.Keeping.{Kept, nothing, checkpoint, Covers, Keeps, KeepsOrHolds, IsPlan, epoch_after, other, target_after, used_by}
-use Rattle.solo_engine.specs.Known.{IsAfter, Knows, KnowsGates, gate_in}
+use Rattle.solo_engine.specs.Known.{Knows, KnowsGates}
 use Rattle.solo_engine.specs.Plans.{calls_for, free_blocks}
-use Rattle.solo_engine.specs.Safe.{AreAcks, HoldsOne, IsUnwritten, KeepsLast, IsWhole, Released, RunSoFar, Safe, last_acked, run_of}
+use Rattle.solo_engine.specs.Safe.{HoldsOne, KeepsLast, IsWhole, Released, RunSoFar, last_acked, run_of}
 use Rattle.solo_engine.specs.declared.interval.Ready.{Ready}
 use Rattle.solo_engine.specs.declared.kept.KeptBlocks.{KeptBlocks}
 use Rattle.solo_engine.specs.declared.run.RunAnswer.{RunAnswer}
 use Rattle.solo_engine.specs.declared.run.RunAnswer.TheVariants.{Done, Stuck, Spent, DiskFault, SinkFault, DiskFull, NoMemory}
-use Rattle.solo_engine.proofs.Between.{any_more, barrier_found, barrier_made_on, begins, ends_done, ends_spent, ends_stuck, fetched_on, goes_on, group_of_barrier, group_of_more, group_of_origin, last_spent, settled}
+use Rattle.solo_engine.proofs.Between.{barrier_found, barrier_made_on, begins, ends_done, ends_spent, ends_stuck, fetched_on, goes_on, group_of_barrier, group_of_more, group_of_origin, last_spent, settled}
 use Rattle.solo_engine.proofs.FreeLaws.{same_free}
 use Rattle.solo_engine.proofs.GateLaws.{gates_after}
-use Rattle.solo_engine.proofs.Outputs.{barrier_reaches, between_none, last_is, mark_above, mark_below, mark_of_group, released as released_piece, start_released}
+use Rattle.solo_engine.proofs.Outputs.{barrier_reaches, between_none, last_is, mark_of_group, released as released_piece, start_released}
 use Rattle.solo_engine.proofs.Pieces.{takes_none}
 use Rattle.solo_engine.proofs.Standing.{IsCommitting, IsKeptAt, IsKeptBy, Reached, acks_below, acks_later, acks_longer, acks_more, first_before, kept_acked, kept_longer, longer, one_during, one_longer, reached_longer, reached_more, released, safe_acked, safe_during, safe_longer}
 use Rattle.solo_engine.proofs.PromptLaws.{Covered, IsBehind, behind_ack, behind_fetch, behind_turns, covered_first, covered_more, covered_next, covered_up, prompt_first, prompt_of}

@@ -2,7 +2,7 @@
 use Rattle.std.proofs.Common.{Vec, Global, Result, Ok, Err, ◌≡◌, ℕ, zero, suc, ◌+◌, ◌-◌, ◌*◌, ◌/◌, ◌<◌, ◌≤◌, ◌==◌, Bool, true, false, cond, List, [], ◌∷◌, ◌++◌, map, length, take, drop, get_or, refl, sym, ap, ap₂, ◌∙◌, subst, arith, append_assoc, length-take, length-drop, add-one}
 use Rattle.std.specs.Prelude.{not, IfOk}
 use Rattle.std.specs.List.{filter, flat_map, range_with_len, AllZip, AllByRecursion}
-use Rattle.std.proofs.lemmas.List.{append-nil, length-map, map-append, map_more}
+use Rattle.std.proofs.lemmas.List.{append-nil, map-append, map_more}
 use Rattle.std.proofs.lemmas.List.Concat.{flat_map-append}
 use Rattle.std.proofs.lemmas.List.Elements.{filter-append}
 use Rattle.group_defs.specs.Group.{Group}

@@ -8,7 +8,7 @@ use Rattle.group_defs.specs.declared.run.Limits.{Limits}
 use Rattle.group_defs.specs.declared.run.Mark.{Mark}
 use Rattle.group_defs.specs.declared.run.Mark.TheVariants.{Barrier, Fetch, Ack}
 use Rattle.group_defs.specs.Group.{Group}
-use Rattle.group_defs.specs.Trace.{after_mark, barrier_group, group_of, is_barrier_of, is_fetch_of, mark_of}
+use Rattle.group_defs.specs.Trace.{after_mark, barrier_group, is_barrier_of, is_fetch_of, mark_of}
 use Rattle.solo_engine.specs.Going.{NoneOf}
 use Rattle.solo_engine.specs.Safe.{IsPrompt, RunSoFar, run_of}
 use Rattle.solo_engine.proofs.Standing.{longer}

@@ -1,25 +1,20 @@
 -- What a run has done so far, as its trace grows, its disk is written, and its output is released.
-use Rattle.std.proofs.Common.{◌≡◌, ◌⊎◌, inl, inr, ⊎_elim, ℕ, zero, suc, ◌+◌, ◌-◌, ◌<◌, ◌≤◌, ◌==◌, ◌||◌, Bool, true, false, List, [], ◌∷◌, ◌++◌, map, length, take, drop, Option, Some, None, IsTrue, refl, sym, ap, subst, ◌∙◌, arith, append-nil, append_assoc, length-append, length-take, length-drop}
-use Rattle.std.specs.Prelude.{if◌then◌else◌}
+use Rattle.std.proofs.Common.{◌≡◌, ◌⊎◌, inl, inr, ⊎_elim, ℕ, zero, suc, ◌+◌, ◌-◌, ◌≤◌, ◌==◌, true, List, [], ◌∷◌, ◌++◌, length, take, Some, IsTrue, refl, sym, ap, subst, ◌∙◌, arith, append-nil, length-append}
 use Rattle.std.specs.List.{list_any, filter_map, AllByRecursion}
-use Rattle.std.specs.Option.{ForSome, option_map}
-use Rattle.std.proofs.lemmas.List.{map-append, length-take-le}
-use Rattle.std.proofs.lemmas.List.Folds.{list_any-append}
+use Rattle.std.proofs.lemmas.List.{map-append}
 use Rattle.std.proofs.lemmas.List.Elements.{filter_map-append}
-use Rattle.dev_traits.specs.Disk.{DiskView, LeftNow, OnlyReading}
+use Rattle.dev_traits.specs.Disk.{DiskView, LeftNow}
 use Rattle.dev_traits.specs.Since.{LeavesOnly}
 use Rattle.dev_traits.specs.Outside.{SinkView, Takes}
 use Rattle.group_defs.specs.declared.run.AckMark.{AckMark}
 use Rattle.group_defs.specs.declared.run.Mark.{Mark}
 use Rattle.group_defs.specs.Group.{Group}
 use Rattle.group_defs.specs.Trace.{IsGroupOf, all_appended, group_after, is_barrier_of, mark_of, output, acked_epoch}
-use Rattle.ckpt_chain.specs.Slot.{newest}
 use Rattle.ckpt_chain.specs.declared.slot.Slot.{Slot}
 use Rattle.ckpt_records.specs.Holds.{Holds, HoldsAt}
 use Rattle.ckpt_records.specs.declared.meta.PagePlace.{PagePlace}
-use Rattle.solo_engine.specs.Going.{output_between}
-use Rattle.solo_engine.specs.Keeping.{Kept, nothing, checkpoint, Keeps, KeepsOrHolds, epoch_after, target_after}
-use Rattle.solo_engine.specs.Safe.{IsPrompt, RunSoFar, run_of, HoldsBarrier, HoldsOne, Safe, AreAcks, NeverFall, Released, last_epoch, last_acked, output_of}
+use Rattle.solo_engine.specs.Keeping.{Kept, nothing, checkpoint, KeepsOrHolds, epoch_after, target_after}
+use Rattle.solo_engine.specs.Safe.{IsPrompt, RunSoFar, HoldsBarrier, HoldsOne, Safe, AreAcks, NeverFall, Released, last_epoch, last_acked, output_of}
 use Rattle.solo_engine.proofs.Between.{any_more, group_of_more}
 use Rattle.restore_group.proofs.Ordered.{each_append, each_both, each_weaker}
 use Rattle.solo_engine.proofs.Outputs.{between_front, between_joins, between_length, between_none, between_stays, output_more}

@@ -1,5 +1,5 @@
 -- Turns since a barrier, and the barrier that they come to.
-use Rattle.std.proofs.Common.{◌≡◌, ◌⊎◌, inl, inr, ◌||◌, Bool, true, false, ℕ, zero, suc, ◌+◌, ◌*◌, ◌<◌, ◌≤◌, List, [], ◌∷◌, ◌++◌, refl, sym, ap, ◌∙◌, subst, arith, append-nil, append_assoc}
+use Rattle.std.proofs.Common.{◌≡◌, ◌⊎◌, inl, inr, ◌||◌, Bool, true, false, ℕ, zero, suc, ◌+◌, ◌<◌, ◌≤◌, List, [], ◌∷◌, ◌++◌, refl, sym, ap, ◌∙◌, arith, append-nil, append_assoc}
 use Rattle.std.specs.List.{filter_map}
 use Rattle.std.proofs.lemmas.List.Elements.{filter_map-append}
 use Rattle.group_defs.specs.declared.run.Limits.{Limits}
@@ -9,7 +9,7 @@ use Rattle.group_defs.specs.Group.{Group}
 use Rattle.group_defs.specs.Legal.{ready}
 use Rattle.group_defs.specs.Output.{last_position}
 use Rattle.group_defs.specs.Turns.{IsTurn, turned}
-use Rattle.solo_engine.specs.Interval.{ComesToBarrier, HasTurned, IsDue, IsLonger, StopsTurning}
+use Rattle.solo_engine.specs.Interval.{ComesToBarrier, HasTurned, IsLonger, StopsTurning}
 use Rattle.group_defs.specs.Trace.{acked_epoch, is_ack_of, is_barrier_of, is_fetch_of}
 use Rattle.solo_engine.specs.Going.{NoneOf}
 use Rattle.solo_engine.proofs.Between.{none_of_more, takes_on, turns_on}

@@ -1,6 +1,6 @@
 -- What a run on one thread has logged between two of its barriers.
-use Rattle.std.specs.Prelude.{◌≡◌, ◌<◌, ◌+◌, ◌-◌, ℕ, false, List, [], ◌∷◌, ◌++◌, take, drop, Option, Some, None, IsTrue}
-use Rattle.std.specs.List.{list_any, filter_map}
+use Rattle.std.specs.Prelude.{◌≡◌, ◌<◌, ◌+◌, ◌-◌, ℕ, false, List, [], ◌∷◌, ◌++◌, take, drop, IsTrue}
+use Rattle.std.specs.List.{list_any}
 use Rattle.group_defs.specs.declared.run.Limits.{Limits}
 use Rattle.group_defs.specs.declared.run.Mark.{Mark}
 use Rattle.group_defs.specs.declared.run.Mark.TheVariants.{Take, Turn, Barrier, Fetch, Ack}

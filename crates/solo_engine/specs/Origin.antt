@@ -62,6 +62,6 @@ pub record IsUnworn (epoch : ℕ) (f : Frame) : Type 0 where
   pub pipe : f.next.pipe ≤ 2 ^ 62
   pub pair : f.next.pair ≤ 2 ^ 62
 
--- The sink has what a checkpoint's output says, or a part of it from the front.
+-- The sink's count is a position of the output: the first one, the last, or one between them.
 abbrev pub IsWithin : SinkView → Out → Type 0
 IsWithin sink out = (out.from ≤ sink.count) × (sink.count ≤ last_position out)

@@ -1,12 +1,11 @@
 -- What a run leaves: on its disk, whenever that stops, and at the output.
-use Rattle.std.specs.Prelude.{◌≡◌, ◌⊎◌, ◌≤◌, ◌+◌, ℕ, Bool, true, false, List, [], ◌∷◌, map, Some, None, IsTrue}
+use Rattle.std.specs.Prelude.{◌≡◌, ◌⊎◌, ◌≤◌, ◌+◌, ℕ, List, [], ◌∷◌, map, Some, None, IsTrue}
 use Rattle.std.specs.List.{list_any, filter_map, AllByRecursion}
 use Rattle.dev_traits.specs.Disk.{DiskView, LeftNow}
 use Rattle.dev_traits.specs.Outside.{SinkView, Takes}
 use Rattle.group_defs.specs.declared.run.AckMark.{AckMark}
 use Rattle.group_defs.specs.declared.run.Limits.{Limits}
 use Rattle.group_defs.specs.declared.run.Mark.{Mark}
-use Rattle.group_defs.specs.declared.run.Mark.TheVariants.{Take, Turn, Barrier, Fetch, Ack}
 use Rattle.group_defs.specs.Ends.{IsSettled}
 use Rattle.group_defs.specs.Group.{Group}
 use Rattle.group_defs.specs.Output.{last_position}

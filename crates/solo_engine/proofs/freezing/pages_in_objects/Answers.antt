@@ -1,6 +1,4 @@
-use Rattle.std.proofs.Common.{ℕ, List, map, ap, sym, ◌∙◌}
-use Rattle.std.proofs.lemmas.List.{take_all}
-use Rattle.solo_engine.specs.Placing.{pages_in}
+use Rattle.std.proofs.Common.{ℕ, List, ap, sym, ◌∙◌}
 use Rattle.solo_engine.proofs.PlaceLaws.{no_objects, object_added}
 use Rattle.solo_engine.proofs.freezing.pages_in_objects.Goals as goal
 

@@ -1,5 +1,4 @@
 use Rattle.std.proofs.Common.{ℕ, ◌≡◌, ◌+◌, ◌≤◌, ◌∙◌, List, subst, sym, ap, arith}
-use Rattle.group_defs.specs.Group.{Group}
 use Rattle.group_defs.specs.Output.{last_position}
 use Rattle.group_defs.specs.declared.run.Mark.{Mark}
 use Rattle.solo_engine.specs.Engine.{group_in}

@@ -1,7 +1,5 @@
 use Rattle.std.proofs.Common.{◌≡◌, ◌+◌, ap, ◌∙◌, subst, List, ◌∷◌, ◌++◌, []}
 use Rattle.dev_traits.specs.Since.{LeavesOnly}
-use Rattle.group_defs.specs.declared.run.AckMark.{AckMark}
-use Rattle.group_defs.specs.declared.run.Mark.{Mark}
 use Rattle.group_defs.specs.declared.run.Mark.TheVariants.{Ack}
 use Rattle.commit_gate.specs.Whole.{IsDuring, Reads, UpTo, calls_more, finished, write_calls}
 use Rattle.commit_gate.specs.declared.whole.Block.{Block}

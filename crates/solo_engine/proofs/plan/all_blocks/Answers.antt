@@ -1,4 +1,4 @@
-use Rattle.std.proofs.Common.{◌≡◌, ◌∙◌, List, ℕ, length, map, sym, ap, ap₂}
+use Rattle.std.proofs.Common.{◌∙◌, List, ℕ, length, map, sym, ap, ap₂}
 use Rattle.ckpt_chain.specs.Chain.{laid}
 use Rattle.solo_engine.specs.Taking.{blocks_in}
 use Rattle.solo_engine.specs.declared.plan.Page.{Page}

@@ -1,4 +1,4 @@
-use Rattle.std.proofs.Common.{◌≡◌, ◌+◌, ◌<◌, ◌∷◌, [], ◌++◌, ◌∙◌, List, ℕ, suc, ap, ap₂, append_assoc, append-nil, arith, length, refl, length-append, map, sym, take, get_or}
+use Rattle.std.proofs.Common.{◌≡◌, ◌+◌, ◌∷◌, [], ◌++◌, ◌∙◌, List, ℕ, suc, ap, ap₂, append_assoc, append-nil, arith, length, refl, length-append, map, sym, take, get_or}
 use Rattle.std.proofs.lemmas.List.{take_all}
 use Rattle.std.specs.Vec.Iter.{into_iter_items}
 use Rattle.solo_engine.specs.Taking.{block_of, blocks_in}

@@ -1,4 +1,4 @@
-use Rattle.std.proofs.Common.{◌≡◌, ◌<◌, ◌∙◌, List, ap, arith, length, map, subst, sym}
+use Rattle.std.proofs.Common.{◌<◌, ◌∙◌, List, ap, arith, length, map, subst, sym}
 use Rattle.block_alloc.specs.Free.{free_count}
 use Rattle.solo_engine.specs.Plans.{IsLaidOut, IsPlanRefused, blocks_for, place_of}
 use Rattle.solo_engine.specs.Taking.{IsLaidIn}

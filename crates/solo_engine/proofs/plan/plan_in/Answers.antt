@@ -1,8 +1,7 @@
-use Rattle.std.proofs.Common.{◌≡◌, ◌++◌, ◌∙◌, List, ap, ap₂, map, sym, subst}
-use Rattle.ckpt_chain.specs.Chain.{first_of, laid}
+use Rattle.std.proofs.Common.{◌∙◌, ap, ap₂, map}
+use Rattle.ckpt_chain.specs.Chain.{first_of}
 use Rattle.commit_gate.specs.Whole.{numbers}
 use Rattle.commit_gate.specs.declared.whole.Block.{Block}
-use Rattle.solo_engine.specs.declared.plan.Page.{Page}
 use Rattle.solo_engine.proofs.Laying.{body_of}
 use Rattle.solo_engine.proofs.plan.plan_in.Goals as goal
 

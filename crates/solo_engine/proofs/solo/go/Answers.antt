@@ -1,5 +1,4 @@
-use Rattle.std.proofs.Common.{◌≡◌, ◌≤◌, ◌∙◌, ℕ, List, ap, subst, sym, arith}
-use Rattle.dev_traits.specs.Disk.{DiskView}
+use Rattle.std.proofs.Common.{◌∙◌, ℕ, List, subst, sym, arith}
 use Rattle.group_defs.specs.declared.frame.Out.{Out}
 use Rattle.group_defs.specs.declared.run.AckMark.{AckMark}
 use Rattle.group_defs.specs.declared.run.Mark.{Mark}
@@ -11,7 +10,7 @@ use Rattle.solo_engine.specs.declared.kept.KeptBlocks.{KeptBlocks}
 use Rattle.solo_engine.specs.declared.run.RunAnswer.TheVariants.{DiskFault, NoMemory}
 use Rattle.solo_engine.proofs.Begun.{begins_on, fails_first, is_start}
 use Rattle.solo_engine.proofs.EngineLaws.{err_of, ok_of, out_in}
-use Rattle.solo_engine.proofs.Goes.{IsGoing, IsStart, ended, goes, stopped, uncommitted, unplanned, unreleased}
+use Rattle.solo_engine.proofs.Goes.{IsGoing, ended, goes, stopped, uncommitted, unplanned, unreleased}
 use Rattle.solo_engine.proofs.solo.go.Given.{Over}
 use Rattle.solo_engine.proofs.solo.go.Goals.{After-persist, After-ready_commit, In-Ok-persist}
 use Rattle.solo_engine.proofs.solo.go.Goals as goal

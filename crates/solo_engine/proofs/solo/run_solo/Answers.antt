@@ -1,4 +1,4 @@
-use Rattle.std.proofs.Common.{List, [], ap, subst, sym, ◌∙◌}
+use Rattle.std.proofs.Common.{List, [], subst, sym}
 use Rattle.group_defs.specs.declared.run.AckMark.{AckMark}
 use Rattle.group_defs.specs.declared.run.Mark.{Mark}
 use Rattle.restore_group.specs.Parts.{group_of}
