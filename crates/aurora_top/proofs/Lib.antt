@@ -6,5 +6,7 @@ pub mod FlatValid
 pub mod FirstOrigin
 pub mod OpeningLaws
 pub mod Answering
+pub mod Finishing
+mod LimitLaws
 mod SaidLaws
 mod ReadingLaws

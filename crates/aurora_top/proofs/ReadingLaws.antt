@@ -13,7 +13,7 @@ use Rattle.aurora_top.specs.declared.options.Setting.{Setting}
 use Rattle.aurora_top.specs.declared.options.Setting.TheVariants.{Turns, Quantum, Every}
 use Rattle.aurora_top.specs.Options.{flag_of, most_of, usual_of, setting_of, is_number, is_within, value_of, setting_with, joined_in}
 use Rattle.aurora_top.specs.Words.{is_name, Piece, name, option, Beginning, new, held, Asked, names_of, values_of, chosen, chosen_in, limits_in, limits_of, asked_with, asked_of, option_in, alone, together, followed_by, pieces_of, command_of_words}
-use Rattle.aurora_top.specs.Spelling.{Writes, BeginWith, Spell, Holds, first_word, manifest_in, IsSpelled}
+use Rattle.aurora_top.specs.Spelling.{Writes, BeginWith, Spell, IsValueOf, first_word, manifest_in, IsSpelled}
 
 -- ---- from what is spelled to what is read
 
@@ -90,7 +90,7 @@ pieces_read (option s n ∷ pieces) words (rest, (digits, w, inr e), more) =
     ap pieces_of e
     ∙ (single (flag_of s ++ 61 ∷ digits) rest (no_flag_alone s digits) ∙ first_then (option s n) pieces (alone (flag_of s ++ 61 ∷ digits)) rest (option_alone s n digits w) (pieces_read pieces rest more))
 
-holds_chosen : (usual : ℕ) (values : List ℕ) (n : ℕ) → Holds usual values n → chosen usual values ≡ Some n
+holds_chosen : (usual : ℕ) (values : List ℕ) (n : ℕ) → IsValueOf usual values n → chosen usual values ≡ Some n
 holds_chosen usual [] n e = ap Some (sym e)
 holds_chosen usual (m ∷ []) n e = ap Some (sym e)
 holds_chosen usual (m ∷ k ∷ more) n e = absurd e
@@ -98,8 +98,8 @@ holds_chosen usual (m ∷ k ∷ more) n e = absurd e
 abbrev all_limits : (turns quantum every : Option ℕ) → Option Limits
 all_limits turns quantum every = option_and_then (λ t. option_and_then (λ q. option_map (λ e. limits_of t q e) every) quantum) turns
 
-limits_read : (pieces : List Piece) (limits : Limits) → Holds (usual_of Turns) (values_of Turns pieces) limits.turns → Holds (usual_of Quantum) (values_of Quantum pieces) limits.quantum
-    → Holds (usual_of Every) (values_of Every pieces) limits.every → limits.workers ≡ 0 → limits.flushers ≡ 1 → limits_in pieces ≡ Some limits
+limits_read : (pieces : List Piece) (limits : Limits) → IsValueOf (usual_of Turns) (values_of Turns pieces) limits.turns → IsValueOf (usual_of Quantum) (values_of Quantum pieces) limits.quantum
+    → IsValueOf (usual_of Every) (values_of Every pieces) limits.every → limits.workers ≡ 0 → limits.flushers ≡ 1 → limits_in pieces ≡ Some limits
 limits_read pieces limits t q e w f =
     ap (λ o. all_limits o (chosen_in pieces Quantum) (chosen_in pieces Every)) (holds_chosen (usual_of Turns) (values_of Turns pieces) limits.turns t)
     ∙ (ap (λ o. all_limits (Some limits.turns) o (chosen_in pieces Every)) (holds_chosen (usual_of Quantum) (values_of Quantum pieces) limits.quantum q)
@@ -230,7 +230,7 @@ pieces_spelled (word ∷ []) pieces e =
 pieces_spelled (word ∷ next ∷ words) pieces e =
     flagged word next words pieces (is_some (setting_of word)) (pieces_spelled words) (pieces_spelled (next ∷ words)) e
 
-chosen_holds : (usual : ℕ) (values : List ℕ) (n : ℕ) → chosen usual values ≡ Some n → Holds usual values n
+chosen_holds : (usual : ℕ) (values : List ℕ) (n : ℕ) → chosen usual values ≡ Some n → IsValueOf usual values n
 chosen_holds usual [] n e = sym (some_same usual n e)
 chosen_holds usual (m ∷ []) n e = sym (some_same m n e)
 chosen_holds usual (m ∷ k ∷ more) n e = absurd cc

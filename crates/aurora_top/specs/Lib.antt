@@ -4,8 +4,12 @@ pub mod Options
 pub mod Words
 pub mod Said
 pub mod Spelling
+pub mod Manifest
+pub mod Beginnings
+pub mod Causes
 pub mod Refusals
 pub mod Boot
 pub mod Opening
 pub mod Starting
 pub mod Answers
+pub mod Complete

@@ -2,9 +2,11 @@
 use Rattle.std.specs.Prelude.{◌≡◌, ◌⊎◌, ◌≤◌, ℕ, List, Option, Some, None}
 use Rattle.std.specs.Option.{ForSome}
 use Rattle.dev_traits.specs.Disk.{DiskView, LeftNow}
+use Rattle.aurora_top.specs.declared.end.End.{End}
+use Rattle.aurora_top.specs.declared.end.End.TheVariants.{Usage, DiskFault, DiskShape}
 
--- The opening sync answered Ok at this moment. Since then a stop leaves what a read gives, and since the call that or
--- what it could leave before.
+-- A moment of the opening, once its sync has answered Ok: since then a stop leaves what a read gives, and since the call that
+-- or what it could leave before.
 pub record IsOpenedAt (at : ℕ) (before after : DiskView) : Type 0 where
   pub not_before : before.moment ≤ at
   pub not_after : at ≤ after.moment
@@ -19,3 +21,10 @@ IsOpenedSince (Some at) before after = IsOpenedAt at before after
 abbrev pub IsBetween : Option ℕ → DiskView → DiskView → Type 0
 IsBetween None before after = before.moment ≤ after.moment
 IsBetween (Some at) before after = (before.moment ≤ at) × (at ≤ after.moment)
+
+-- The moment told by a command that was refused: that of the opening sync, where it answered Ok, else the one at the end.
+abbrev pub IsOpening : End → ℕ → DiskView → DiskView → Type 0
+IsOpening Usage at before after = at ≡ after.moment
+IsOpening (DiskShape blocks) at before after = at ≡ after.moment
+IsOpening DiskFault at before after = (at ≡ after.moment) ⊎ IsOpenedAt at before after
+IsOpening end at before after = IsOpenedAt at before after

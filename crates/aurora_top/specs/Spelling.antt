@@ -25,10 +25,10 @@ Spell [] words = words ≡ []
 Spell (piece ∷ pieces) words = (rest : List (List ℕ)) × BeginWith piece words rest × Spell pieces rest
 
 -- an option stands at most once, and where it is absent its usual value holds
-abbrev pub Holds : ℕ → List ℕ → ℕ → Type 0
-Holds usual [] n = n ≡ usual
-Holds usual (m ∷ []) n = n ≡ m
-Holds usual (m ∷ k ∷ more) n = ⊥
+abbrev pub IsValueOf : ℕ → List ℕ → ℕ → Type 0
+IsValueOf usual [] n = n ≡ usual
+IsValueOf usual (m ∷ []) n = n ≡ m
+IsValueOf usual (m ∷ k ∷ more) n = ⊥
 
 abbrev pub first_word : Beginning → List ℕ
 first_word (new manifest) = codes "run"
@@ -46,8 +46,8 @@ pub record IsSpelled (command : Asked) (words : List (List ℕ)) : Type 0 where
   pub first : words ≡ first_word command.beginning ∷ rest
   pub spelled : Spell pieces rest
   pub names : names_of pieces ≡ command.disk ∷ command.out ∷ manifest_in command.beginning
-  pub turns : Holds (usual_of Turns) (values_of Turns pieces) command.limits.turns
-  pub quantum : Holds (usual_of Quantum) (values_of Quantum pieces) command.limits.quantum
-  pub every : Holds (usual_of Every) (values_of Every pieces) command.limits.every
+  pub turns : IsValueOf (usual_of Turns) (values_of Turns pieces) command.limits.turns
+  pub quantum : IsValueOf (usual_of Quantum) (values_of Quantum pieces) command.limits.quantum
+  pub every : IsValueOf (usual_of Every) (values_of Every pieces) command.limits.every
   pub workers : command.limits.workers ≡ 0
   pub flushers : command.limits.flushers ≡ 1

@@ -7,30 +7,14 @@ use Rattle.aurora_top.specs.declared.options.Setting.TheVariants.{Turns, Quantum
 use Rattle.aurora_top.specs.declared.words.Kind.{Kind}
 use Rattle.aurora_top.specs.declared.words.Kind.TheVariants.{Run, Restore}
 use Rattle.aurora_top.specs.declared.words.Command.{Command}
+use Rattle.aurora_top.specs.declared.words.Mode.{Mode}
+use Rattle.aurora_top.specs.declared.words.Mode.TheVariants.{Solo, Bad}
 use Rattle.aurora_top.specs.Options.{usual_of, setting_of, setting_with, joined_in}
 
 -- a word that names a file isn't empty, and doesn't begin with `-`
 abbrev pub is_name : List ℕ → Bool
 is_name [] = false
 is_name (b ∷ word) = not (b == 45)
-
--- `run` and the names of a disk, an output and a manifest
-abbrev pub is_run : List (List ℕ) → Bool
-is_run [] = false
-is_run (command ∷ []) = false
-is_run (command ∷ disk ∷ []) = false
-is_run (command ∷ disk ∷ out ∷ []) = false
-is_run (command ∷ disk ∷ out ∷ manifest ∷ []) =
-    bytes_eq command (codes "run") && is_name disk && is_name out && is_name manifest
-is_run (command ∷ disk ∷ out ∷ manifest ∷ more ∷ words) = false
-
--- the manifest's name
-abbrev pub manifest_of : List (List ℕ) → List ℕ
-manifest_of [] = []
-manifest_of (command ∷ []) = []
-manifest_of (command ∷ disk ∷ []) = []
-manifest_of (command ∷ disk ∷ out ∷ []) = []
-manifest_of (command ∷ disk ∷ out ∷ manifest ∷ words) = manifest
 
 -- what stands after the first word: names, and options with their values
 pub data Piece : Type 0 where
@@ -136,3 +120,7 @@ beginning_of Restore = held
 
 abbrev pub asked_by : Command → Asked
 asked_by command = record { beginning = beginning_of command.kind; disk = command.disk.now; out = command.out.now; limits = command.limits }
+
+-- the call that words are for: a run on one thread where they spell a command
+abbrev pub mode_of_words : List (List ℕ) → Mode
+mode_of_words words = elim (command_of_words words) [ None ↦ Bad | Some command ↦ Solo ]

@@ -1,12 +1,12 @@
 //! Stops at any call of a run with two or three barriers, and calls that fail: what is restored of each image.
 ghost use Rattle.std.specs.Prelude.{◌≤◌};
 
-use crate::samples::{FLAT_P, RUN, SIXTEEN, files, image, sink, words};
-use crate::solo::{Outcome, run};
+use crate::samples::{FLAT_P, SIXTEEN, files, image, sink, words};
+use crate::{Ending, aurora_solo};
 use ckpt_records::Origin;
 use dev_traits::Disk;
 use dev_traits::mem::{Fill, MemDisk, MemFiles, MemSink};
-use group_defs::{AckMark, Limits};
+use group_defs::AckMark;
 use lists::Seq;
 use restore_group::{Refused, restore};
 use std::alloc::Global;
@@ -24,14 +24,26 @@ const COUNTER: &[u32] = &[
     0xfe5f_f06f,
 ];
 
-/// A barrier after each turn. A turn ends with its write.
-const EACH_TURN: Limits = Limits {
-    turns: 3,
-    quantum: 100,
-    every: 1,
-    workers: 0,
-    flushers: 1,
-};
+/// Two turns, and three, with a barrier after each. A turn ends with its write.
+const TWO: &[&str] = &[
+    "run",
+    "--turns=2",
+    "--quantum=100",
+    "--every=1",
+    "d",
+    "o",
+    "m",
+];
+
+const THREE: &[&str] = &[
+    "run",
+    "--turns=3",
+    "--quantum=100",
+    "--every=1",
+    "d",
+    "o",
+    "m",
+];
 
 const FILLS: [Fill; 5] = [
     Fill::Old,
@@ -49,14 +61,19 @@ struct Remains {
     acks: Seq<AckMark>,
 }
 
-fn remains_of(outcome: Outcome<MemDisk, MemSink>) -> Remains {
-    let Outcome {
+fn remains_of(run: Ending<MemFiles, MemDisk, MemSink, MemSink>) -> Remains {
+    let Ending {
+        status: _,
         end: _,
+        origin_epoch: _,
+        opened_at: _,
         trace: _,
         acks,
+        files: _,
         disk,
         out,
-    } = outcome;
+        say: _,
+    } = run;
     Remains { disk, out, acks }
 }
 
@@ -67,22 +84,15 @@ fn counter(alloc: Global) -> Result<MemFiles, Fail> {
     files(alloc, FLAT_P, bytes)
 }
 
-/// What is left after so many turns where the disk's call of this number fails; none does where it is 0.
+/// What is left after two or three turns where the disk's call of this number fails; none does where it is 0.
 fn left_after(alloc: Global, turns: u64, failing: u64) -> Result<Remains, Fail> {
-    let words = words(alloc, RUN)?;
-    let mut files = counter(alloc)?;
+    let words = words(alloc, if turns == 2 { TWO } else { THREE })?;
+    let files = counter(alloc)?;
     let disk = MemDisk::of(alloc, vec![in alloc; 0u8; SIXTEEN]?, 100)?;
     let disk = disk.failing(vec![in alloc; failing]?);
-    let limits = if turns == 2 {
-        Limits {
-            turns: 2,
-            ..EACH_TURN
-        }
-    } else {
-        EACH_TURN
-    };
     let out = sink(alloc, b"")?;
-    Ok(remains_of(run(alloc, &words, &mut files, disk, out, &mut None, limits)))
+    let say = sink(alloc, b"")?;
+    Ok(remains_of(aurora_solo(alloc, &words, files, disk, out, say)))
 }
 
 /// What an image holds.

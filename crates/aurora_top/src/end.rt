@@ -34,7 +34,7 @@ pub enum End {
     NoMemory,
     /// A disk has 16 to 1,048,576 blocks of 4,096 bytes.
     DiskShape { blocks: u64 },
-    /// The output holds `count` bytes: fewer than `from`, or more than `last`. Both are 0 for a run.
+    /// The output holds `count` bytes: fewer than `from`, or more than `last`. Both are 0 where a manifest begins.
     SinkStrange { count: u64, from: u64, last: u64 },
     /// The held epoch, the last position of the output, or a number that comes next is above 2^62.
     Worn { epoch: u64 },
@@ -42,10 +42,10 @@ pub enum End {
 
 /// What a call hands back.
 pub struct Ending<F, D, O, S> {
-    /// The number of `end`, for the process's exit status.
+    /// The number of `end`, or 16 where its line couldn't be said, for the process's exit status.
     pub status: u8,
     pub end: End,
-    /// The epoch that the run began with; 0 on a new disk.
+    /// The epoch that the run began with; 0 on a new disk, and where the command was refused.
     pub origin_epoch: u64,
     /// The disk's moment when the opening sync answered Ok, else its moment at the end.
     pub opened_at: u64,

@@ -2,9 +2,9 @@
 ghost use Rattle.std.specs.Prelude.{◌≡◌, ◌≤◌, List, ℕ, IsTrue, Some, IfOk, IfErr, IfSome, IfNone, length, ◌↔◌};
 ghost use Rattle.std.specs.Option.{ForSome};
 ghost use Rattle.std.specs.List.{AllByRecursion};
-ghost use Rattle.aurora_top.specs.Refusals.{IsFlat, NamesImage, RefusedByFiles, NoFile, NoImage};
+ghost use Rattle.aurora_top.specs.Manifest.{IsFlat, NamesImage};
+ghost use Rattle.aurora_top.specs.Causes.{RefusedByFiles, NoFile, NoImage};
 
-use crate::end::End;
 use dev_traits::{Files, FilesFailed};
 use std::alloc::Global;
 
@@ -13,6 +13,15 @@ const HEADING: &[u8; 14] = b"aurora 1\nflat ";
 
 /// The most bytes of an image: 16 MiB.
 const MOST_BYTES: usize = 16_777_216;
+
+/// Why no image was loaded.
+#[derive(Clone, Copy, Debug, PartialEq, Eq)]
+pub enum LoadRefused {
+    /// The manifest or the image isn't there, or isn't one that is built.
+    NotBuilt,
+    FilesFault,
+    NoMemory,
+}
 
 /// Whether each byte may stand in a name.
 fn is_printed(name: &[u8]) -> bool
@@ -44,7 +53,7 @@ fn flat_name(manifest: &[u8]) -> Option<&[u8]>
 }
 
 /// The file of this name.
-fn read_file<F: Files>(files: &mut F, alloc: Global, name: &str) -> Result<Vec<u8>, End>
+fn read_file<F: Files>(files: &mut F, alloc: Global, name: &str) -> Result<Vec<u8>, LoadRefused>
     ensures ok { IfOk result (λ bytes. ForSome (F.view files.old).contents (λ held. held name.now ≡ Some bytes.items)) }
     ensures err { IfErr result (λ e. NoFile name.now (F.view files.old) (F.view files.new) e) }
     ensures contents { (F.view files.new).contents ≡ (F.view files.old).contents }
@@ -52,14 +61,14 @@ fn read_file<F: Files>(files: &mut F, alloc: Global, name: &str) -> Result<Vec<u
 {
     match files.read(alloc, name) {
         Ok(Some(bytes)) => Ok(bytes),
-        Ok(None) => Err(End::NotBuilt),
-        Err(FilesFailed::Failed) => Err(End::FilesFault),
-        Err(FilesFailed::NoMemory) => Err(End::NoMemory),
+        Ok(None) => Err(LoadRefused::NotBuilt),
+        Err(FilesFailed::Failed) => Err(LoadRefused::FilesFault),
+        Err(FilesFailed::NoMemory) => Err(LoadRefused::NoMemory),
     }
 }
 
 /// The image of this name.
-fn read_image<F: Files>(files: &mut F, alloc: Global, name: &str) -> Result<Vec<u8>, End>
+fn read_image<F: Files>(files: &mut F, alloc: Global, name: &str) -> Result<Vec<u8>, LoadRefused>
     ensures ok { IfOk result (λ image. ForSome (F.view files.old).contents (λ held. held name.now ≡ Some image.items)) }
     ensures size { IfOk result (λ image. (1 ≤ length image.items) × (length image.items ≤ 16777216)) }
     ensures err { IfErr result (λ e. NoImage name.now (F.view files.old) (F.view files.new) e) }
@@ -68,10 +77,10 @@ fn read_image<F: Files>(files: &mut F, alloc: Global, name: &str) -> Result<Vec<
 {
     let image = match read_file(files, alloc, name) {
         Ok(image) => image,
-        Err(end) => return Err(end),
+        Err(refused) => return Err(refused),
     };
     if image.is_empty() || image.len() > MOST_BYTES {
-        return Err(End::NotBuilt);
+        return Err(LoadRefused::NotBuilt);
     }
     Ok(image)
 }
@@ -91,7 +100,7 @@ fn image_name(manifest: &[u8]) -> Option<&str>
 }
 
 /// Reads the manifest, and the flat image that it names.
-pub fn load<F: Files>(alloc: Global, files: &mut F, manifest: &str) -> Result<Vec<u8>, End>
+pub fn load<F: Files>(alloc: Global, files: &mut F, manifest: &str) -> Result<Vec<u8>, LoadRefused>
     ensures ok { IfOk result (λ image. ForSome (F.view files.old).contents (λ held. NamesImage held manifest.now image.items)) }
     ensures size { IfOk result (λ image. (1 ≤ length image.items) × (length image.items ≤ 16777216)) }
     ensures err { IfErr result (λ e. RefusedByFiles manifest.now (F.view files.old) (F.view files.new) e) }
@@ -100,10 +109,10 @@ pub fn load<F: Files>(alloc: Global, files: &mut F, manifest: &str) -> Result<Ve
 {
     let bytes = match read_file(files, alloc, manifest) {
         Ok(bytes) => bytes,
-        Err(end) => return Err(end),
+        Err(refused) => return Err(refused),
     };
     match image_name(&bytes) {
         Some(name) => read_image(files, alloc, name),
-        None => Err(End::NotBuilt),
+        None => Err(LoadRefused::NotBuilt),
     }
 }

@@ -1,17 +1,23 @@
-//! The opening of a disk: one sync, and both slots.
-ghost use Rattle.std.specs.Prelude.{◌≡◌, ◌≤◌, ◌+◌, ◌*◌, None, IsErr, IfOk, IfErr, OnOk, slice_index};
+//! The slots of a disk on which a run begins with a manifest.
+ghost use Rattle.std.specs.Prelude.{◌≡◌, ◌≤◌, ◌+◌, ◌*◌, None, IsErr, IfOk, IfErr, slice_index};
 ghost use Rattle.std.specs.Option.{ForSome};
 ghost use Rattle.dev_traits.specs.Counts.{HasCause};
 ghost use Rattle.dev_traits.specs.Disk.{OnlyReading};
 ghost use Rattle.ckpt_chain.specs.Reads.{OnlyReads};
-ghost use Rattle.ckpt_chain.specs.Slot.{open_body};
-ghost use Rattle.solo_engine.specs.Safe.{IsUnwritten};
-ghost use Rattle.aurora_top.specs.Opening.{IsBetween, IsOpenedSince};
-ghost use Rattle.aurora_top.specs.Refusals.{IsOpened, RefusedByDisk};
+ghost use Rattle.ckpt_chain.specs.Slot.{newest, open_body};
+ghost use Rattle.solo_engine.specs.Origin.{gates_of};
+ghost use Rattle.aurora_top.specs.Causes.{RefusedByDisk};
 
-use crate::end::End;
 use ckpt_chain::{SlotBody, open_slot, read_slot};
 use dev_traits::{Disk, Failed};
+
+/// Why a disk isn't one to begin a new run on.
+#[derive(Clone, Copy, Debug, PartialEq, Eq)]
+pub enum OpenRefused {
+    /// A slot is open; the newest one has this epoch.
+    Occupied { epoch: u64 },
+    DiskFault,
+}
 
 // A slot's body where it is open, and its gate byte.
 fn read_one<D: Disk>(disk: &mut D, place: u64) -> Result<(Option<SlotBody>, u8), Failed>
@@ -30,42 +36,24 @@ fn read_one<D: Disk>(disk: &mut D, place: u64) -> Result<(Option<SlotBody>, u8),
     }
 }
 
-// The gate bytes of slots A and B, where no slot is open.
-fn read_slots<D: Disk>(disk: &mut D) -> Result<[u8; 2], End>
+/// Reads both slots, of which none may be open: their gate bytes.
+pub fn unused_gates<D: Disk>(disk: &mut D) -> Result<[u8; 2], OpenRefused>
     requires sized { 2 ≤ (D.view disk.old).blocks }
     requires only { OnlyReading (D.view disk.old) }
-    ensures ok { IfOk result (λ gates. IsOpened gates (D.view disk.old) (D.view disk.new)) }
+    ensures ok { IfOk result (λ gates. ForSome (D.view disk.old).reading (λ r. (newest r ≡ None) × (gates ≡ gates_of r))) }
     ensures err { IfErr result (λ e. RefusedByDisk (D.view disk.old) (D.view disk.new) e) }
     ensures reads { OnlyReads (D.view disk.old) (D.view disk.new) }
 {
     let (a, gate_a) = match read_one(disk, 0) {
         Ok(read) => read,
-        Err(_) => return Err(End::DiskFault),
+        Err(_) => return Err(OpenRefused::DiskFault),
     };
     let (b, gate_b) = match read_one(disk, 4096) {
         Ok(read) => read,
-        Err(_) => return Err(End::DiskFault),
+        Err(_) => return Err(OpenRefused::DiskFault),
     };
     match open_slot(a, b) {
         None => Ok([gate_a, gate_b]),
-        Some(_) => Err(End::NotBuilt),
+        Some((_, body)) => Err(OpenRefused::Occupied { epoch: body.epoch }),
     }
-}
-
-/// Syncs the disk and reads both slots, of which none may be open: their gate bytes. `opened_at` gets the moment at which
-/// the sync answered Ok.
-pub fn open_disk<D: Disk>(disk: &mut D, opened_at: &mut Option<u64>) -> Result<[u8; 2], End>
-    requires sized { 2 ≤ (D.view disk.old).blocks }
-    requires untold { opened_at.old ≡ None }
-    ensures ok { IfOk result (λ gates. IsOpened gates (D.view disk.old) (D.view disk.new)) }
-    ensures err { IfErr result (λ e. RefusedByDisk (D.view disk.old) (D.view disk.new) e) }
-    ensures between { IsBetween opened_at.new (D.view disk.old) (D.view disk.new) }
-    ensures opening { OnOk result (IsOpenedSince opened_at.new (D.view disk.old) (D.view disk.new)) }
-    ensures same { IsUnwritten (D.view disk.old) (D.view disk.new) }
-{
-    if disk.sync().is_err() {
-        return Err(End::DiskFault);
-    }
-    *opened_at = Some(disk.moment());
-    read_slots(disk)
 }

@@ -13,6 +13,9 @@ const EXIT: &[u32] = &[0x05d0_0893, 0x0000_0513, 0x0000_0073];
 /// Jumps to itself.
 const LOOP: &[u32] = &[0x0000_006f];
 
+/// The words of a run of up to eight turns with a barrier behind them.
+const EIGHT: &[&str] = &["run", "--turns=8", "--every=8", "d", "o", "m"];
+
 fn disk(alloc: Global, size: usize) -> Result<MemDisk, Fail> {
     Ok(MemDisk::of(alloc, vec![in alloc; 0u8; size]?, 100)?)
 }
@@ -94,6 +97,50 @@ fn output_is_released(rt: HostRuntime) -> Result<(), Fail> {
     Ok(())
 }
 
+/// Lets what a call handed back go, but for its disk.
+fn disk_of(run: Run) -> MemDisk {
+    let Ending {
+        status: _,
+        end: _,
+        origin_epoch: _,
+        opened_at: _,
+        trace: _,
+        acks: _,
+        files: _,
+        disk,
+        out: _,
+        say: _,
+    } = run;
+    disk
+}
+
+/// The disk of a run of eight turns.
+fn used_disk(alloc: Global) -> Result<MemDisk, Fail> {
+    let files = files(alloc, FLAT_P, image(alloc, LOOP, b"")?)?;
+    let disk = disk(alloc, SIXTEEN)?;
+    Ok(disk_of(run(alloc, EIGHT, files, disk, sink(alloc, b"")?)?))
+}
+
+#[test]
+fn a_run_goes_on_from_its_checkpoint(rt: HostRuntime) -> Result<(), Fail> {
+    let alloc = rt.alloc();
+    let words = ["restore", "d", "o", "--turns=3", "--every=2"];
+    let files = files(alloc, FLAT_P, image(alloc, LOOP, b"")?)?;
+    let run = run(alloc, &words, files, used_disk(alloc)?, sink(alloc, b"")?)?;
+    assert_eq!(rt; run.origin_epoch, 1);
+    assert_eq!(rt;
+        run.say.bytes(),
+        b"spent epoch 3 turns 3 output 0\n".as_slice()
+    );
+    let spent = End::Spent {
+        epoch: 3,
+        turns: 3,
+        output: 0,
+    };
+    assert_eq!(rt; end_of(run), spent);
+    Ok(())
+}
+
 /// An image that jumps to its second page, and writes from there.
 fn two_pages(alloc: Global) -> Result<Vec<u8>, Fail> {
     let mut bytes = image(alloc, &[0x0000_106f], b"")?;
@@ -143,8 +190,8 @@ const GOOD: Case = Case {
     },
 };
 
-/// Each refusal that a command alone makes, each with its answer.
-const CASES: [Case; 11] = [
+/// Each refusal that a new disk gets, each with its answer.
+const CASES: [Case; 12] = [
     GOOD,
     Case {
         texts: &[],
@@ -167,8 +214,13 @@ const CASES: [Case; 11] = [
         ..GOOD
     },
     Case {
+        texts: &["restore", "d", "o"],
+        end: End::NoCheckpoint,
+        ..GOOD
+    },
+    Case {
         blocks: 15 * 4096,
-        end: End::NotBuilt,
+        end: End::DiskShape { blocks: 15 },
         ..GOOD
     },
     Case {
@@ -193,7 +245,11 @@ const CASES: [Case; 11] = [
     },
     Case {
         out: b"x",
-        end: End::NotBuilt,
+        end: End::SinkStrange {
+            count: 1,
+            from: 0,
+            last: 0,
+        },
         ..GOOD
     },
 ];
@@ -262,7 +318,7 @@ fn turns_are_spent(rt: HostRuntime) -> Result<(), Fail> {
         turns: 8,
         output: 0,
     };
-    assert_eq!(rt; end_of(run(alloc, RUN, files, disk, out)?), spent);
+    assert_eq!(rt; end_of(run(alloc, EIGHT, files, disk, out)?), spent);
     Ok(())
 }
 
@@ -277,7 +333,13 @@ fn full_of_ones(alloc: Global, size: usize) -> Result<Vec<u8>, Fail> {
 fn a_checkpoint_that_needs_more_blocks_is_not_begun(rt: HostRuntime) -> Result<(), Fail> {
     let alloc = rt.alloc();
     let files = files(alloc, FLAT_P, full_of_ones(alloc, 14 * 4096)?)?;
-    let run = run(alloc, RUN, files, disk(alloc, SIXTEEN)?, sink(alloc, b"")?)?;
+    let run = run(
+        alloc,
+        EIGHT,
+        files,
+        disk(alloc, SIXTEEN)?,
+        sink(alloc, b"")?,
+    )?;
     assert_eq!(rt; run.status, 12);
     assert_eq!(rt; run.disk.bytes().first(), Some(&0));
     assert_eq!(rt; run.disk.bytes().get(4096), Some(&0));
@@ -289,7 +351,13 @@ fn a_checkpoint_that_needs_more_blocks_is_not_begun(rt: HostRuntime) -> Result<(
 fn a_checkpoint_that_takes_all_blocks_is_made(rt: HostRuntime) -> Result<(), Fail> {
     let alloc = rt.alloc();
     let files = files(alloc, FLAT_P, full_of_ones(alloc, 13 * 4096)?)?;
-    let run = run(alloc, RUN, files, disk(alloc, SIXTEEN)?, sink(alloc, b"")?)?;
+    let run = run(
+        alloc,
+        EIGHT,
+        files,
+        disk(alloc, SIXTEEN)?,
+        sink(alloc, b"")?,
+    )?;
     let spent = End::Spent {
         epoch: 1,
         turns: 8,
@@ -317,7 +385,7 @@ fn output_past_its_room_takes_several_barriers(rt: HostRuntime) -> Result<(), Fa
     let files = files(alloc, FLAT_P, bytes)?;
     let disk = MemDisk::of(alloc, vec![in alloc; 0u8; 2_457_600]?, 2000)?;
     let out = MemSink::of(alloc, Vec::new(alloc), 5_000_000)?;
-    let run = run(alloc, RUN, files, disk, out)?;
+    let run = run(alloc, EIGHT, files, disk, out)?;
     assert_eq!(rt; run.acks.len(), 4);
     let spent = End::Spent {
         epoch: 4,

@@ -1,10 +1,10 @@
 //! The words of a command.
-ghost use Rattle.std.specs.Prelude.{◌≡◌, IsTrue, false, ◌∷◌};
+ghost use Rattle.std.specs.Prelude.{◌≡◌};
 ghost use Rattle.std.specs.Option.{option_map};
-ghost use Rattle.aurora_top.specs.Words.{is_run as runs, manifest_of as manifest_name, command_of_words, asked_by, asked_with};
+ghost use Rattle.aurora_top.specs.Words.{command_of_words, asked_by, asked_with, mode_of_words};
 ghost use Rattle.aurora_top.specs.Said.{names_in, limits_said};
 
-use crate::said::{Names, Said, is_name, limits_of, said_by};
+use crate::said::{Names, Said, limits_of, said_by};
 use dev_traits::Word;
 use group_defs::Limits;
 
@@ -40,29 +40,6 @@ pub struct Command<'a> {
     pub out: &'a str,
     /// Those of the options, and the usual ones where an option is absent.
     pub limits: Limits,
-}
-
-/// Whether the words are `run` and the names of a disk, an output and a manifest.
-pub fn is_run(words: &[Word]) -> bool
-    ensures { result ≡ runs words.now }
-{
-    match words {
-        [command, disk, out, manifest] => {
-            command.as_str() == "run" && is_name(disk) && is_name(out) && is_name(manifest)
-        }
-        _ => false,
-    }
-}
-
-/// The manifest's name, of words that are `run` and three names.
-pub fn manifest_of(words: &[Word]) -> &str
-    requires { IsTrue (runs words.now) }
-    ensures { result.now ≡ manifest_name words.now }
-{
-    match words {
-        [_, _, _, manifest] => manifest.as_str(),
-        _ => "",
-    }
 }
 
 // The command of this first word, where as many names stand behind it as it has.
@@ -107,8 +84,10 @@ pub fn command_of(words: &[Word]) -> Option<Command<'_>>
 
 /// The call that the words are for.
 pub fn mode_of(words: &[Word]) -> Mode
-    ensures solo { IsTrue (runs words.now) → result ≡ Mode.Solo }
-    ensures bad { runs words.now ≡ false → result ≡ Mode.Bad }
+    ensures { result ≡ mode_of_words words.now }
 {
-    if is_run(words) { Mode::Solo } else { Mode::Bad }
+    match command_of(words) {
+        Some(_) => Mode::Solo,
+        None => Mode::Bad,
+    }
 }

@@ -11,4 +11,4 @@ last_is d epoch (a ∷ b ∷ acks) some =
     ap (λ (n : ℕ). (get_or (a ∷ b ∷ acks) n d).epoch) one ∙ last_is d a.epoch (b ∷ acks) (omega arith)
 
 pub returns-in-len1-up : goal.returns-in-len1-up
-returns-in-len1-up c = last_is _ 0 c.args.acks.now c.in-len1-up.len_at_least
+returns-in-len1-up c = last_is _ c.args.origin_epoch c.args.acks.now c.in-len1-up.len_at_least
