@@ -8,9 +8,9 @@ ghost use Rattle.address_maps.specs.Mappings.{IsMapping, AreMappings, place_at};
 ghost use Rattle.address_maps.specs.declared.refusals.AddRefused.TheVariants.{Overlap, Full as AddFull};
 ghost use Rattle.address_maps.specs.declared.refusals.CutRefused.TheVariants.{Full as CutFull};
 
+use crate::cutting::{count_left, place_holding, split, trim};
 use crate::gaps;
 use crate::maps::{Mapping, Place};
-use crate::parts::{count_left, place_holding, split, trim};
 use crate::refusals::{AddRefused, CutRefused};
 use crate::search::{find_place, is_taken};
 use lists::{NoMemory, Seq};
@@ -18,7 +18,8 @@ use std::alloc::Global;
 use std::marker::Model;
 use tables::insert_in;
 
-/// The mappings of a process: at most 1,024, in rising order of their starts; no two share an address.
+/// The mappings of a process: at most 1,024, in rising order of their starts; no two share an
+/// address.
 #[derive(Debug, Drop)]
 pub struct Map {
     items: Vec<Mapping>,
@@ -33,7 +34,10 @@ impl Model for Map {
 
     ghost Value = { Rows Mapping };
 
-    ghost view = { λ m. record { entries = m.items.items; spare = vec_capacity m.items - vec_len m.items } };
+    ghost view = { λ m. record {
+      entries = m.items.items;
+      spare = vec_capacity m.items - vec_len m.items;
+    } };
 
     ghost invariant = { λ m. AreMappings m.items.items };
 }
@@ -97,12 +101,16 @@ impl Map {
     pub fn add(&mut self, m: Mapping) -> Result<(), AddRefused>
         requires { IsMapping m }
         ensures ok { OnOk result (self.new.entries ≡ added (λ n. n.start) self.old.entries m) }
-        ensures overlap { IsErrOf result Overlap ↔ IsTrue (of_mappings.is_taken self.old.entries m) }
-        ensures full { IsErrOf result AddFull ↔ ((of_mappings.is_taken self.old.entries m ≡ false) × (length self.old.entries ≡ 1024)) }
+        ensures overlap { IsErrOf result Overlap
+            ↔ IsTrue (of_mappings.is_taken self.old.entries m) }
+        ensures full { IsErrOf result AddFull
+            ↔ ((of_mappings.is_taken self.old.entries m ≡ false)
+            × (length self.old.entries ≡ 1024)) }
         ensures err { OnErr result (self.new ≡ self.old) }
 
         // With room only the first two refusals can come.
-        ensures room { of_mappings.is_taken self.old.entries m ≡ false → length self.old.entries < 1024 → 1 ≤ self.old.spare → IsOk result }
+        ensures room { of_mappings.is_taken self.old.entries m ≡ false
+            → length self.old.entries < 1024 → 1 ≤ self.old.spare → IsOk result }
         ensures spare { self.old.spare ≤ self.new.spare + 1 }
     {
         if is_taken(&self.items, &m) {
@@ -115,16 +123,20 @@ impl Map {
         Ok(())
     }
 
-    /// Cuts so many pages from an address on out of the mappings. At most one mapping is added, which takes no memory where
-    /// there is room.
+    /// Cuts so many pages from an address on out of the mappings. At most one mapping is added,
+    /// which takes no memory where there is room; where none is added, no memory is taken.
     pub fn cut(&mut self, start: u64, pages: u64) -> Result<(), CutRefused>
         requires at_page { start % 4096 ≡ 0 }
         requires within { start + 4096 * pages ≤ 2 ^ 38 }
         ensures ok { OnOk result (self.new.entries ≡ of_cut.cut self.old.entries start pages) }
-        ensures full { IsErrOf result CutFull ↔ (1024 < length (of_cut.cut self.old.entries start pages)) }
+        ensures full { IsErrOf result CutFull
+            ↔ (1024 < length (of_cut.cut self.old.entries start pages)) }
         ensures err { OnErr result (self.new ≡ self.old) }
-        ensures room { length (of_cut.cut self.old.entries start pages) ≤ 1024 → 1 ≤ self.old.spare → IsOk result }
+        ensures room { let left = length (of_cut.cut self.old.entries start pages) in
+            left ≤ 1024 → (length self.old.entries < left → 1 ≤ self.old.spare) → IsOk result }
         ensures spare { self.old.spare ≤ self.new.spare + 1 }
+        ensures kept_spare { length (of_cut.cut self.old.entries start pages)
+            ≤ length self.old.entries → self.old.spare ≤ self.new.spare }
     {
         if self.left_after(start, pages) > 1_024 {
             return Err(CutRefused::Full);
@@ -146,7 +158,8 @@ impl Map {
         count_left(&self.items, start, start + 4_096 * pages)
     }
 
-    /// The lowest address of so many free pages in the area from which addresses are given, 0x2000000000 up to 0x3000000000.
+    /// The lowest address of so many free pages in the area from which addresses are given,
+    /// 0x2000000000 up to 0x3000000000.
     pub fn first_gap(&self, pages: u64) -> Option<u64>
         ensures computed { result ≡ of_gaps.first_gap self.now.entries pages }
         ensures some { IfSome result (IsFirstGap self.now.entries pages) }

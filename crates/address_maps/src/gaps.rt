@@ -4,8 +4,8 @@ ghost use Rattle.std.specs.Prelude.{◌≡◌, ◌≤◌, ◌<◌, ◌^◌, ◌%
 ghost use Rattle.address_maps.specs.Gaps.{IsGap, IsFirstGap, IsLowestFree};
 ghost use Rattle.address_maps.specs.Mappings.{AreApart, IsMapping};
 
+use crate::cutting::end_of;
 use crate::maps::Mapping;
-use crate::parts::end_of;
 
 /// The first address of the area from which addresses are given.
 const AREA_START: u64 = 0x20_0000_0000;

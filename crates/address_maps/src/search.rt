@@ -5,8 +5,8 @@ ghost use Rattle.std.specs.List.{prefix_len};
 ghost use Rattle.address_maps.specs.Mappings as of_mappings;
 ghost use Rattle.address_maps.specs.Mappings.{AreApart, IsMapping, place_at};
 
+use crate::cutting::end_of;
 use crate::maps::{Mapping, Place};
-use crate::parts::end_of;
 
 // How many mappings end at an address or before.
 fn place_ending_after(items: &[Mapping], address: u64) -> usize
@@ -18,10 +18,10 @@ fn place_ending_after(items: &[Mapping], address: u64) -> usize
 }
 
 #[tactic(auto, unfolding(crate::specs::Mappings::IsMapping))]
-fn place_in(m: &Mapping, address: u64) -> Place
+fn place_shown(m: &Mapping, address: u64) -> Place
     requires mapping { IsMapping m.now }
     requires has { IsTrue (of_mappings.has address m.now) }
-    ensures { result ≡ of_mappings.place_in address m.now }
+    ensures { result ≡ of_mappings.place_shown address m.now }
 {
     let from = address - m.start;
     Place {
@@ -41,7 +41,7 @@ pub(crate) fn find_place(items: &[Mapping], address: u64) -> Option<Place>
 {
     let place = place_ending_after(items, address);
     if place < items.len() && items[place].start <= address {
-        Some(place_in(&items[place], address))
+        Some(place_shown(&items[place], address))
     } else {
         None
     }

@@ -1,7 +1,8 @@
 //! Descriptors of processes, and the open file descriptions that they are at.
 //!
-//! A `DescTable` is seen as a process's list of descriptors, `Opens` as the list of a group's descriptions with their owners:
-//! how many descriptors of all processes are at each. Below stands `tables`, above stand the groups and the system calls.
+//! A `DescTable` is seen as a process's list of descriptors, `Opens` as the list of a group's
+//! descriptions with their owners: how many descriptors of all processes are at each. Below stands
+//! `tables`, above stand the groups and the system calls.
 #![tactic(auto)]
 
 mod counted;

@@ -1,2 +1,2 @@
 pub mod Ordered
-pub mod Kept
+pub mod Changed

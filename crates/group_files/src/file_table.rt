@@ -29,7 +29,10 @@ impl Model for FileTable {
 
     ghost Value = { Rows FileRec };
 
-    ghost view = { λ t. record { entries = t.files.items; spare = vec_capacity t.files - vec_len t.files } };
+    ghost view = { λ t. record {
+      entries = t.files.items;
+      spare = vec_capacity t.files - vec_len t.files;
+    } };
 
     ghost invariant = { λ t. AreFiles t.files.items };
 }
@@ -39,7 +42,8 @@ fn insert(files: &mut Vec<Named>, place: usize, file: Named) -> Result<(), NoMem
     requires { place ≤ length files.old.items }
     ensures ok { OnOk result (files.new.items ≡ List.insert files.old.items place file) }
     ensures len { OnOk result (vec_len files.new ≡ vec_len files.old + 1) }
-    ensures err { OnErr result ((files.new.items ≡ files.old.items) × (vec_len files.new ≡ vec_len files.old)
+    ensures err { OnErr result ((files.new.items ≡ files.old.items)
+        × (vec_len files.new ≡ vec_len files.old)
         × (vec_capacity files.new ≡ vec_capacity files.old)) }
     ensures room { vec_len files.old < vec_capacity files.old → IsOk result }
     ensures capacity { vec_capacity files.old ≤ vec_capacity files.new }
@@ -122,17 +126,22 @@ impl FileTable {
         }
     }
 
-    /// Creates an empty file with an object that is no file's. It takes no memory where there is room.
+    /// Creates an empty file with an object that is no file's. It takes no memory where there is
+    /// room.
     pub fn create(&mut self, name: &[u8], object: u64) -> Result<(), CreateRefused>
         requires name { IsName name.now }
         requires object { file_with self.old.entries object ≡ None }
-        ensures ok { OnOk result (self.new.entries ≡ with_file self.old.entries (empty_file name.now object)) }
+        ensures ok { OnOk result (self.new.entries
+            ≡ with_file self.old.entries (empty_file name.now object)) }
         ensures exists { IsErrOf result Exists ↔ IsSome (file_named self.old.entries name.now) }
-        ensures full { IsErrOf result TableFull ↔ ((file_named self.old.entries name.now ≡ None) × (length self.old.entries ≡ 64)) }
+        ensures full { IsErrOf result TableFull
+            ↔ ((file_named self.old.entries name.now ≡ None)
+            × (length self.old.entries ≡ 64)) }
         ensures err { OnErr result (self.new ≡ self.old) }
 
         // With room only the first two refusals can come.
-        ensures room { file_named self.old.entries name.now ≡ None → length self.old.entries < 64 → 1 ≤ self.old.spare → IsOk result }
+        ensures room { file_named self.old.entries name.now ≡ None
+            → length self.old.entries < 64 → 1 ≤ self.old.spare → IsOk result }
         ensures spare { self.old.spare ≤ self.new.spare + 1 }
     {
         if find_named(&self.files, name).is_some() {

@@ -17,7 +17,7 @@ fn is_before(name: &[u8], other: &[u8]) -> bool
 /// How many files have a name before this one.
 pub(crate) fn place_of(files: &[Named], name: &[u8]) -> usize
     requires { NamesRise files.now }
-    ensures place { result ≡ of_files.place_of files.now name.now }
+    ensures place { result ≡ of_files.place_of_name files.now name.now }
     ensures within { result ≤ length files.now }
 {
     files.partition_point(|file| is_before(file.name(), name))

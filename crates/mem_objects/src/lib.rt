@@ -12,4 +12,4 @@ mod tests;
 
 pub use layer::Layer;
 pub use page_buf::{PageBuf, is_zero};
-pub use slots::{add, find, get_in, take_out, write_in};
+pub use slots::{add, find, get_in, write_in};

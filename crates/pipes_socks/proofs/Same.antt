@@ -10,7 +10,7 @@ use Rattle.pipes_socks.specs.declared.answers.Sending.TheVariants as sendings
 use Rattle.pipes_socks.specs.declared.answers.Pull.TheVariants as pulls
 use Rattle.pipes_socks.specs.declared.streams.Pair.{Pair}
 use Rattle.pipes_socks.specs.declared.streams.Pipe.{Pipe}
-use Rattle.pipes_socks.specs.Pipes.{pipe_bytes, with_bytes}
+use Rattle.pipes_socks.specs.Pipes.{pipe_bytes, with_pipe_bytes}
 use Rattle.pipes_socks.specs.Pairs.{messages_to, with_messages, waiting_at, with_waiting, sent_messages, recv_answer, left_messages}
 use Rattle.pipes_socks.proofs.Held.{pipe}
 
@@ -34,16 +34,16 @@ module _ {X : Type 0} (test : X → Bool) (f : X → X) where
       by_found None none = on_first_no test f xs (none_from_find test xs none)
       by_found (Some x) found = on_first_same xs x found (same x found)
 
-same_bytes : (pipes : List Pipe) (n : ℕ) → with_bytes pipes n (pipe_bytes pipes n) ≡ pipes
+same_bytes : (pipes : List Pipe) (n : ℕ) → with_pipe_bytes pipes n (pipe_bytes pipes n) ≡ pipes
 same_bytes pipes n =
     on_first_kept {X = Pipe} (λ p. p.number == n) (λ p. pipe p.number (pipe_bytes pipes n)) pipes (λ p found. ap (pipe p.number) (rw (found, pipe_bytes) refl))
 
-pub nothing_pushed : (pipes : List Pipe) (n count : ℕ) (bytes : List ℕ) → count ≡ 0 → with_bytes pipes n (pipe_bytes pipes n ++ take count bytes) ≡ pipes
+pub nothing_pushed : (pipes : List Pipe) (n count : ℕ) (bytes : List ℕ) → count ≡ 0 → with_pipe_bytes pipes n (pipe_bytes pipes n ++ take count bytes) ≡ pipes
 nothing_pushed pipes n count bytes none =
-    ap (λ (k : ℕ). with_bytes pipes n (pipe_bytes pipes n ++ take k bytes)) none ∙ ap (λ (b : List ℕ). with_bytes pipes n b) (append-nil (pipe_bytes pipes n)) ∙ same_bytes pipes n
+    ap (λ (k : ℕ). with_pipe_bytes pipes n (pipe_bytes pipes n ++ take k bytes)) none ∙ ap (λ (b : List ℕ). with_pipe_bytes pipes n b) (append-nil (pipe_bytes pipes n)) ∙ same_bytes pipes n
 
-pub nothing_pulled : (pipes : List Pipe) (n count : ℕ) → count ≡ 0 → with_bytes pipes n (drop count (pipe_bytes pipes n)) ≡ pipes
-nothing_pulled pipes n count none = ap (λ (k : ℕ). with_bytes pipes n (drop k (pipe_bytes pipes n))) none ∙ same_bytes pipes n
+pub nothing_pulled : (pipes : List Pipe) (n count : ℕ) → count ≡ 0 → with_pipe_bytes pipes n (drop count (pipe_bytes pipes n)) ≡ pipes
+nothing_pulled pipes n count none = ap (λ (k : ℕ). with_pipe_bytes pipes n (drop k (pipe_bytes pipes n))) none ∙ same_bytes pipes n
 
 kept_messages : (p : Pair) (end : ℕ) → with_messages p end (messages_to p end) ≡ p
 kept_messages p end = by_test (end == 0)

@@ -1,7 +1,7 @@
 -- The messages of socket pairs.
-use Rattle.std.specs.Prelude.{◌≡◌, ◌⊎◌, ℕ, Bool, not, nat_lt, nat_le, ◌==◌, min, if◌then◌else◌, List, [], ◌∷◌, ◌++◌, length, drop, Option, Some, None, slice_get}
+use Rattle.std.specs.Prelude.{◌≡◌, ◌≤◌, ◌⊎◌, ℕ, All, Bool, not, nat_lt, nat_le, ◌==◌, min, if◌then◌else◌, List, [], ◌∷◌, ◌++◌, length, drop, Option, Some, None, slice_get}
 use Rattle.std.specs.Option.{option_map}
-use Rattle.tables.specs.Rising.{entry_of, added, removed, changed}
+use Rattle.tables.specs.Rising.{Rise, entry_of, added, removed, changed}
 use Rattle.pipes_socks.specs.declared.answers.Pull.{Pull}
 use Rattle.pipes_socks.specs.declared.answers.Pull.TheVariants as pulls
 use Rattle.pipes_socks.specs.declared.answers.Sending.{Sending}
@@ -59,7 +59,19 @@ first_message (message ∷ messages) = message
 abbrev pub left_messages : List (List ℕ) → ℕ → List (List ℕ)
 left_messages waiting count = if count == 0 then waiting else drop 1 waiting
 
--- The pairs of a group, rising by number.
+-- at most 16 messages wait at an end, each of 1 to 4,096 bytes
+unfoldable pub QueueFits : List (List ℕ) → Type 0
+QueueFits messages = (length messages ≤ 16) × All (λ m. (1 ≤ length m) × (length m ≤ 4096)) messages
+
+unfoldable pub PairFits : Pair → Type 0
+PairFits p = QueueFits p.to0 × QueueFits p.to1
+
+-- the pairs that a group may have: rising by number, at most 256
+pub record ArePairs (pairs : List Pair) : Type 0 where
+  pub rise : Rise (λ p. p.number) pairs
+  pub each : All PairFits pairs
+  pub count : length pairs ≤ 256
+
 abbrev pub pair_of : List Pair → ℕ → Option Pair
 pair_of pairs number = entry_of (λ p. p.number) pairs number
 

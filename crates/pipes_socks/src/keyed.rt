@@ -1,5 +1,5 @@
 use crate::channel::Channel;
-use crate::ends::Ends;
+use crate::queues::Queues;
 use crate::streams::{Pair, Pipe};
 use tables::Keyed;
 
@@ -11,7 +11,7 @@ impl Keyed for Channel {
     }
 }
 
-impl Keyed for Ends {
+impl Keyed for Queues {
     ghost key = { λ e. e.number };
 
     fn key(&self) -> u64 {

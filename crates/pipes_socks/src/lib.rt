@@ -1,16 +1,17 @@
 //! Pipes and socket pairs of a group: the bytes and the messages that wait in them.
 //!
-//! A `PipeTable` is seen as the group's list of pipes with their bytes, a `PairTable` as its list of pairs with the messages
-//! that wait at each end, and either with the room beside. Which ends are open is the caller's to say. Below stand `tables`
-//! and `circular_buffer`, above stand the groups and the system calls.
+//! A `PipeTable` is seen as the group's list of pipes with their bytes, a `PairTable` as its list
+//! of pairs with the messages that wait at each end, and either with the room beside. Which ends
+//! are open is the caller's to say. Below stand `tables` and `circular_buffer`, above stand the
+//! groups and the system calls.
 #![tactic(auto)]
 
 mod answers;
 mod channel;
-mod ends;
 mod keyed;
 mod pairs;
 mod pipes;
+mod queues;
 mod streams;
 #[cfg(test)]
 mod tests;

@@ -5,38 +5,41 @@ ghost use Rattle.pipes_socks.specs.declared.answers.Pull.TheVariants.{Waits};
 ghost use Rattle.pipes_socks.specs.declared.answers.Sending.TheVariants.{Sent};
 ghost use Rattle.pipes_socks.specs.declared.answers.TableRefused.TheVariants.{Full};
 ghost use Rattle.pipes_socks.specs.Pipes.{pulled_count};
-ghost use Rattle.pipes_socks.specs.Pairs.{messages_to, send_answer, IsOrNoMemory, sent_messages, recv_answer, first_message, left_messages, pair_of, waiting_at, with_waiting, with_pair, without_pair, first_length};
+ghost use Rattle.pipes_socks.specs.Pairs.{ArePairs, messages_to, send_answer, IsOrNoMemory, sent_messages, recv_answer, first_message, left_messages, pair_of, waiting_at, with_waiting, with_pair, without_pair, first_length};
 
 use crate::answers::{Pull, Sending, TableRefused};
-use crate::ends::Ends;
+use crate::queues::Queues;
 use crate::streams::Pair;
 use lists::{NoMemory, Seq};
 use std::alloc::Global;
 use std::marker::Model;
 use tables::{find_in, insert_in, remove_in};
 
-/// The socket pairs of a group, by their numbers.
+/// The socket pairs of a group, by their numbers: at most 256, and at each end at most 16 messages.
 #[derive(Drop)]
 pub struct PairTable {
-    pairs: Vec<Ends>,
+    pairs: Vec<Queues>,
 }
 
 impl Model for PairTable {
     ghost use Rattle.std.specs.Prelude.{◌-◌};
     ghost use Rattle.std.specs.Vec.{vec_len, vec_capacity};
-    ghost use Rattle.tables.specs.Rising.{Rise};
     ghost use Rattle.tables.specs.Rows.{Rows};
+    ghost use Rattle.pipes_socks.specs.Pairs.{ArePairs};
     ghost use Rattle.pipes_socks.specs.declared.streams.Pair.{Pair};
 
     ghost Value = { Rows Pair };
 
-    ghost view = { λ t. record { entries = t.pairs.items; spare = vec_capacity t.pairs - vec_len t.pairs } };
+    ghost view = { λ t. record {
+      entries = t.pairs.items;
+      spare = vec_capacity t.pairs - vec_len t.pairs;
+    } };
 
-    ghost invariant = { λ t. Rise (λ p. p.number) t.pairs.items };
+    ghost invariant = { λ t. ArePairs t.pairs.items };
 }
 
 // The place of a pair that is there.
-fn place_of(pairs: &[Ends], number: u64) -> usize
+fn place_of(pairs: &[Queues], number: u64) -> usize
     requires rise { Rise (λ p. p.number) pairs.now }
     requires there { IsSome (pair_of pairs.now number) }
     ensures { IsPlaceOf (λ p. p.number) pairs.now number result }
@@ -59,12 +62,12 @@ impl PairTable {
 
     /// The table of these pairs with their messages.
     pub fn of(alloc: Global, list: &[Pair]) -> Result<PairTable, NoMemory>
-        requires { Rise (λ p. p.number) list.now }
+        requires { ArePairs list.now }
         ensures { IfOk result (λ pairs. pairs.entries ≡ list.now) }
     {
         let mut pairs = Vec::with_capacity(alloc, list.len())?;
         for pair in list {
-            pairs.push(Ends::of(alloc, pair)?)?;
+            pairs.push(Queues::of(alloc, pair)?)?;
         }
         Ok(PairTable { pairs })
     }
@@ -72,7 +75,7 @@ impl PairTable {
     /// A copy of the pairs with their messages, in their order.
     pub fn list(&self, alloc: Global) -> Result<Seq<Pair>, NoMemory>
         ensures entries { IfOk result (λ list. list ≡ self.now.entries) }
-        ensures rise { Rise (λ p. p.number) self.now.entries }
+        ensures valid { ArePairs self.now.entries }
     {
         let mut list = Seq::new(alloc);
         for pair in &self.pairs {
@@ -83,7 +86,7 @@ impl PairTable {
 
     pub fn len(&self) -> u64
         ensures count { result ≡ length self.now.entries }
-        ensures rise { Rise (λ p. p.number) self.now.entries }
+        ensures valid { ArePairs self.now.entries }
     {
         self.pairs.len() as u64
     }
@@ -103,7 +106,7 @@ impl PairTable {
     /// Makes a pair without messages, of a number that isn't there.
     pub fn make(&mut self, alloc: Global, number: u64) -> Result<(), TableRefused>
         requires { pair_of self.old.entries number ≡ None }
-        ensures full { (result ≡ Err Full) ↔ (256 ≤ length self.old.entries) }
+        ensures full { (result ≡ Err Full) ↔ (length self.old.entries ≡ 256) }
         ensures ok { OnOk result (self.new.entries ≡ with_pair self.old.entries number) }
         ensures err { OnErr result (self.new ≡ self.old) }
         ensures room { 1 ≤ self.old.spare → length self.old.entries < 256 → IsOk result }
@@ -112,10 +115,8 @@ impl PairTable {
         if self.pairs.len() >= 256 {
             return Err(TableRefused::Full);
         }
-        match insert_in(&mut self.pairs, Ends::new(alloc, number)) {
-            Ok(()) => Ok(()),
-            Err(_) => Err(TableRefused::NoMemory),
-        }
+        insert_in(&mut self.pairs, Queues::new(alloc, number))?;
+        Ok(())
     }
 
     /// The length in bytes of the first message that waits at an end; none where none waits.
@@ -133,7 +134,8 @@ impl PairTable {
     /// How many messages wait at an end.
     pub fn waiting(&self, number: u64, end: u8) -> Option<u64>
         requires { end < 2 }
-        ensures { result ≡ option_map (λ p. length (messages_to p end)) (pair_of self.now.entries number) }
+        ensures { result
+            ≡ option_map (λ p. length (messages_to p end)) (pair_of self.now.entries number) }
     {
         match find_in(&self.pairs, number) {
             Some(place) => Some(self.pairs[place].messages(end).len() as u64),
@@ -153,8 +155,11 @@ impl PairTable {
         requires there { IsSome (pair_of self.old.entries number) }
         requires end { from < 2 }
         requires some { 1 ≤ length bytes.now }
-        ensures answer { IsOrNoMemory (send_answer (waiting_at self.old.entries number (1 - from)) bytes.now peer) result }
-        ensures pairs { self.new.entries ≡ with_waiting self.old.entries number (1 - from) (sent_messages result (waiting_at self.old.entries number (1 - from)) bytes.now) }
+        ensures answer { let waiting = waiting_at self.old.entries number (1 - from) in
+            IsOrNoMemory (send_answer waiting bytes.now peer) result }
+        ensures pairs { let waiting = waiting_at self.old.entries number (1 - from) in
+            self.new.entries ≡ with_waiting self.old.entries number (1 - from)
+            (sent_messages result waiting bytes.now) }
         ensures same { result ≢ Sent → self.new.entries ≡ self.old.entries }
         ensures spare { self.new.spare ≡ self.old.spare }
     {
@@ -166,10 +171,15 @@ impl PairTable {
     pub fn recv(&mut self, number: u64, end: u8, into: &mut [u8], peer: bool) -> Pull
         requires there { IsSome (pair_of self.old.entries number) }
         requires end { end < 2 }
-        ensures answer { result ≡ recv_answer (waiting_at self.old.entries number end) (length into.old) peer }
-        ensures pairs { self.new.entries ≡ with_waiting self.old.entries number end (left_messages (waiting_at self.old.entries number end) (length into.old)) }
+        ensures answer { let waiting = waiting_at self.old.entries number end in
+            result ≡ recv_answer waiting (length into.old) peer }
+        ensures pairs { let waiting = waiting_at self.old.entries number end in
+            self.new.entries ≡ with_waiting self.old.entries number end
+            (left_messages waiting (length into.old)) }
         ensures same { result ≡ Waits → self.new.entries ≡ self.old.entries }
-        ensures given { into.new ≡ take (pulled_count result) (first_message (waiting_at self.old.entries number end)) ++ drop (pulled_count result) into.old }
+        ensures given { let waiting = waiting_at self.old.entries number end in
+            into.new ≡ take (pulled_count result) (first_message waiting)
+            ++ drop (pulled_count result) into.old }
         ensures spare { self.new.spare ≡ self.old.spare }
     {
         let place = place_of(&self.pairs, number);

@@ -40,7 +40,7 @@ fn drop_pipe(pipes: &mut PipeTable, number: u64) {
 #[test]
 fn bytes_come_out_in_their_order(rt: HostRuntime) -> Result<(), Fail> {
     let mut pipes = PipeTable::new(rt.alloc());
-    pipes.reserve(1)?;
+    pipes.reserve(rt.alloc(), 1)?;
     assert_eq!(rt; make_pipe(rt.alloc(), &mut pipes, 3), None);
     assert_eq!(rt; push(&mut pipes, 3, b"abc", true), Some(Push::Taken(3)));
     let mut into = [0; 2];

@@ -7,8 +7,8 @@ use Rattle.address_maps.proofs.Apart.{place_found, place_missed, place_past, end
 use Rattle.address_maps.proofs.search.find_place.Goals as goal
 use Rattle.address_maps.proofs.search.find_place.Goals.{else-place-items-via-then-place-items+else-items-place, else-place-items-via-else-place-items}
 
-pub place_in-requires-clause-has : goal.place_in-requires-clause-has
-place_in-requires-clause-has c =
+pub place_shown-requires-clause-has : goal.place_shown-requires-clause-has
+place_shown-requires-clause-has c =
     let after = ends_after c.args.items.now c.requires.apart c.args.address c.place_ending_after-place.result c.place_ending_after-place.ensures.place no_mapping c.if-place-items.true in
     grind (arith, nat_tests, after, c.if-items-place.true)
 
@@ -18,7 +18,7 @@ returns-then-items-place c =
     let m = get_or c.args.items.now place no_mapping in
     let after = ends_after c.args.items.now c.requires.apart c.args.address place c.place_ending_after-place.ensures.place no_mapping c.if-place-items.true in
     let hit : has c.args.address m ≡ true = grind (arith, nat_tests, after, c.if-items-place.true) in
-    ap (λ (p : Place). Some p) c.place_in.ensures ∙ sym (place_found c.args.items.now c.requires.apart c.args.address place c.place_ending_after-place.ensures.place m c.if-place-items.true (get_or_default c.args.items.now place no_mapping m c.if-place-items.true) hit)
+    ap (λ (p : Place). Some p) c.place_shown.ensures ∙ sym (place_found c.args.items.now c.requires.apart c.args.address place c.place_ending_after-place.ensures.place m c.if-place-items.true (get_or_default c.args.items.now place no_mapping m c.if-place-items.true) hit)
 
 pub returns-else-place-items : goal.returns-else-place-items
 returns-else-place-items c =

@@ -1,6 +1,7 @@
-use Rattle.std.proofs.Common.{◌≤◌, length}
+use Rattle.std.proofs.Common.{◌≤◌, length, arith}
+use Rattle.std.proofs.lemmas.Bool.{false≢true}
 use Rattle.address_maps.specs.Cut.{cut}
-use Rattle.address_maps.proofs.Cuts.{cut_mappings, split_cut}
+use Rattle.address_maps.proofs.Cuts.{cut_mappings, split_adds, split_cut}
 use Rattle.address_maps.proofs.address_map.Map.cut.Goals as goal
 
 pub invariant_of-self : goal.invariant_of-self
@@ -22,3 +23,17 @@ returns-in_ok-split-in-Some-clause-ok c =
     let on = rw c.deref.ensures.value at c.in-Some.ensures.some in
     let within = rw c.deref.ensures.value at c.in-Some.ensures.within in
     rw (← c.self.view_is) (split_cut _ _ c.args.start c.args.pages c.in-Some.place c.self.invariant.apart within on c.in_ok-split-in-Some.ensures.ok)
+
+pub returns-in_err-split-in-Some-clause-room : goal.returns-in_err-split-in-Some-clause-room
+returns-in_err-split-in-Some-clause-room c =
+    let on = rw c.deref.ensures.value at c.in-Some.ensures.some in
+    let within = rw c.deref.ensures.value at c.in-Some.ensures.within in
+    let more = split_adds _ c.args.start c.args.pages c.in-Some.place c.self.invariant.apart within on in
+    rw (← c.self.view_is) (λ few needs. absurd (false≢true (c.in_err-split-in-Some.ensures.room (omega (arith, more, needs (omega (arith, more)))))))
+
+pub returns-in_ok-split-in-Some-clause-kept_spare : goal.returns-in_ok-split-in-Some-clause-kept_spare
+returns-in_ok-split-in-Some-clause-kept_spare c =
+    let on = rw c.deref.ensures.value at c.in-Some.ensures.some in
+    let within = rw c.deref.ensures.value at c.in-Some.ensures.within in
+    let more = split_adds _ c.args.start c.args.pages c.in-Some.place c.self.invariant.apart within on in
+    rw (← c.self.view_is) (λ none. absurd (omega (arith, more, none)))

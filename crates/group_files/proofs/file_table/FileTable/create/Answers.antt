@@ -3,7 +3,7 @@ use Rattle.std.specs.Prelude.{is_some}
 use Rattle.std.specs.Option.{option_map}
 use Rattle.std.proofs.lemmas.Bool.{true≢false}
 use Rattle.group_files.specs.Names.{IsName}
-use Rattle.group_files.proofs.Kept.{files_inserted}
+use Rattle.group_files.proofs.Changed.{files_inserted}
 use Rattle.group_files.proofs.file_table.FileTable.create.Goals as goal
 
 none_mapped : {A B : Type 0} (f : A → B) (o : Option A) → is_some o ≡ false → option_map f o ≡ None

@@ -2,7 +2,7 @@ use Rattle.std.proofs.Common.{refl, sym, ap}
 use Rattle.std.specs.Option.{option_map}
 use Rattle.group_files.specs.declared.named_files.FileRec.{FileRec}
 use Rattle.tables.proofs.Only.{find_no}
-use Rattle.group_files.proofs.Kept.{with_at}
+use Rattle.group_files.proofs.Changed.{with_at}
 use Rattle.group_files.proofs.file_table.FileTable.length_of.Goals as goal
 
 pub returns-in-Some : goal.returns-in-Some

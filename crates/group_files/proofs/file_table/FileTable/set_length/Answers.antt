@@ -1,6 +1,6 @@
 use Rattle.std.proofs.Common.{sym}
 use Rattle.tables.proofs.Only.{on_first_no}
-use Rattle.group_files.proofs.Kept.{length_at, files_set}
+use Rattle.group_files.proofs.Changed.{length_at, files_set}
 use Rattle.group_files.proofs.file_table.FileTable.set_length.Goals as goal
 
 pub invariant_of-self : goal.invariant_of-self

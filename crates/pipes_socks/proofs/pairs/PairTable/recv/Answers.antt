@@ -1,15 +1,14 @@
 use Rattle.std.proofs.Common.{rules, ap, List, ℕ, length, ◌∙◌}
 use Rattle.pipes_socks.specs.Pairs.{left_messages, messages_to, waiting_at, with_waiting}
-use Rattle.pipes_socks.specs.declared.streams.Pair.{Pair}
-use Rattle.pipes_socks.proofs.Kept.{rise_kept}
 use Rattle.pipes_socks.proofs.Same.{same_messages, nothing_received}
-use Rattle.pipes_socks.proofs.Held.{messages_become, number_kept}
+use Rattle.pipes_socks.proofs.Queued.{queue_left}
+use Rattle.pipes_socks.proofs.Held.{messages_become, pairs_kept}
 use Rattle.pipes_socks.proofs.pairs.PairTable.recv.Goals as goal
 
 pub invariant_of-self : goal.invariant_of-self
 invariant_of-self c =
-    rise_kept {X = Pair} (λ p. p.number) c.deref.result.now c.self.inside.pairs.items c.args.self.now.entries c.deref.ensures.value (ap (λ r. r.entries) c.self.view_is) c.self.invariant c.args.number c.place_of-place.result c.place_of-place.ensures c.index_mut.result.now c.index_mut.ensures.value
-    c.recv.new.self (ap (λ (p : Pair). p.number) c.recv.ensures.pair ∙ number_kept c.index_mut.result.now (c.args.end) (left_messages (messages_to c.index_mut.result.now (c.args.end)) (length c.args.into.now)))
+    pairs_kept c.deref.result.now c.self.inside.pairs.items c.args.self.now.entries c.deref.ensures.value (ap (λ r. r.entries) c.self.view_is) c.self.invariant c.args.number c.place_of-place.result c.place_of-place.ensures c.index_mut.result.now c.index_mut.ensures.value (c.args.end)
+    (left_messages (messages_to c.index_mut.result.now c.args.end) (length c.args.into.now)) c.recv.new.self c.recv.ensures.pair (queue_left (messages_to c.index_mut.result.now c.args.end) (length c.args.into.now))
 
 pub returns-clause-pairs : goal.returns-clause-pairs
 returns-clause-pairs c =

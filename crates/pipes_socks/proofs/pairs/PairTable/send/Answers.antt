@@ -1,15 +1,15 @@
 use Rattle.std.proofs.Common.{ap, List, ℕ, ◌-◌, ◌∙◌}
 use Rattle.pipes_socks.specs.Pairs.{sent_messages, messages_to, waiting_at, with_waiting}
-use Rattle.pipes_socks.specs.declared.streams.Pair.{Pair}
-use Rattle.pipes_socks.proofs.Kept.{rise_kept}
 use Rattle.pipes_socks.proofs.Same.{same_messages, nothing_sent}
-use Rattle.pipes_socks.proofs.Held.{messages_become, number_kept}
+use Rattle.pipes_socks.proofs.Queued.{queue_sent}
+use Rattle.pipes_socks.proofs.Held.{messages_become, pairs_kept}
 use Rattle.pipes_socks.proofs.pairs.PairTable.send.Goals as goal
 
 pub invariant_of-self : goal.invariant_of-self
 invariant_of-self c =
-    rise_kept {X = Pair} (λ p. p.number) c.deref.result.now c.self.inside.pairs.items c.args.self.now.entries c.deref.ensures.value (ap (λ r. r.entries) c.self.view_is) c.self.invariant c.args.number c.place_of-place.result c.place_of-place.ensures c.index_mut.result.now c.index_mut.ensures.value
-    c.send.new.self (ap (λ (p : Pair). p.number) c.send.ensures.pair ∙ number_kept c.index_mut.result.now (1 - c.args.from) (sent_messages c.send.result (messages_to c.index_mut.result.now (1 - c.args.from)) c.args.bytes.now))
+    pairs_kept c.deref.result.now c.self.inside.pairs.items c.args.self.now.entries c.deref.ensures.value (ap (λ r. r.entries) c.self.view_is) c.self.invariant c.args.number c.place_of-place.result c.place_of-place.ensures c.index_mut.result.now c.index_mut.ensures.value (1 - c.args.from)
+    (sent_messages c.send.result (messages_to c.index_mut.result.now (1 - c.args.from)) c.args.bytes.now) c.send.new.self c.send.ensures.pair
+    (queue_sent c.send.result (messages_to c.index_mut.result.now (1 - c.args.from)) c.args.bytes.now c.args.peer c.requires.some c.send.ensures.answer)
 
 pub returns-clause-pairs : goal.returns-clause-pairs
 returns-clause-pairs c =

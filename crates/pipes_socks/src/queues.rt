@@ -1,0 +1,196 @@
+ghost use Rattle.std.specs.Prelude.{◌≡◌, ◌≤◌, ◌<◌, ◌-◌, ◌+◌, [], ◌∷◌, ◌++◌, length, take, drop, IfOk, min};
+ghost use Rattle.pipes_socks.specs.Pipes.{pulled_count};
+ghost use Rattle.pipes_socks.specs.declared.answers.Sending.TheVariants.{Sent};
+ghost use Rattle.pipes_socks.specs.Pairs.{messages_to, with_messages, send_answer, IsOrNoMemory, sent_messages, recv_answer, first_message, left_messages};
+
+use crate::answers::{Pull, Sending};
+use crate::streams::Pair;
+use lists::{NoMemory, Seq};
+use std::alloc::Global;
+use std::marker::Model;
+
+/// A pair whose messages can be taken from the front.
+#[derive(Drop)]
+pub struct Queues {
+    number: u64,
+    to0: Vec<Seq<u8>>,
+    to1: Vec<Seq<u8>>,
+}
+
+impl Model for Queues {
+    ghost use Rattle.pipes_socks.specs.declared.streams.Pair.{Pair};
+
+    ghost Value = { Pair };
+
+    ghost view = { λ e. record { number = e.number; to0 = e.to0.items; to1 = e.to1.items } };
+}
+
+fn copy_bytes(alloc: Global, bytes: &[u8]) -> Result<Seq<u8>, NoMemory>
+    ensures { IfOk result (λ copy. copy ≡ bytes.now) }
+{
+    Ok(Seq::of(Vec::from_slice(alloc, bytes)?))
+}
+
+fn copy_messages(alloc: Global, messages: &[Seq<u8>]) -> Result<Seq<Seq<u8>>, NoMemory>
+    ensures { IfOk result (λ copy. copy ≡ messages.now) }
+{
+    let mut copy = Seq::new(alloc);
+    for message in messages {
+        copy.push(copy_bytes(alloc, message.as_slice())?)?;
+    }
+    Ok(copy)
+}
+
+// Adds a message behind those that wait.
+fn post(alloc: Global, waiting: &mut Vec<Seq<u8>>, bytes: &[u8], peer: bool) -> Sending
+    ensures answer { IsOrNoMemory (send_answer waiting.old.items bytes.now peer) result }
+    ensures messages { waiting.new.items ≡ sent_messages result waiting.old.items bytes.now }
+{
+    if bytes.len() > 4096 {
+        return Sending::TooLong;
+    }
+    if !peer {
+        return Sending::Broken;
+    }
+    if waiting.len() >= 16 {
+        return Sending::Waits;
+    }
+    match copy_bytes(alloc, bytes) {
+        Ok(message) => add(waiting, message),
+        Err(_) => Sending::NoMemory,
+    }
+}
+
+fn add(waiting: &mut Vec<Seq<u8>>, message: Seq<u8>) -> Sending
+    ensures answer { IsOrNoMemory Sent result }
+    ensures messages { waiting.new.items ≡ sent_messages result waiting.old.items message }
+{
+    match waiting.push(message) {
+        Ok(()) => Sending::Sent,
+        Err(_) => Sending::NoMemory,
+    }
+}
+
+// Gives the first bytes of a message.
+fn give(message: &[u8], into: &mut [u8]) -> u64
+    ensures count { result ≡ min (length into.old) (length message.now) }
+    ensures given { into.new ≡ take result message.now ++ drop result into.old }
+{
+    let count = into.len().min(message.len());
+    into[..count].copy_from_slice(&message[..count]);
+    count as u64
+}
+
+// Takes the first message that waits.
+fn fetch(waiting: &mut Vec<Seq<u8>>, into: &mut [u8], peer: bool) -> Pull
+    ensures answer { result ≡ recv_answer waiting.old.items (length into.old) peer }
+    ensures messages { waiting.new.items ≡ left_messages waiting.old.items (length into.old) }
+    ensures given { into.new ≡ take (pulled_count result) (first_message waiting.old.items)
+        ++ drop (pulled_count result) into.old }
+{
+    if into.is_empty() {
+        return Pull::Taken(0);
+    }
+    if waiting.is_empty() {
+        return if peer { Pull::Waits } else { Pull::Taken(0) };
+    }
+    let message = waiting.remove(0);
+    Pull::Taken(give(message.as_slice(), into))
+}
+
+impl Queues {
+    /// A pair without messages. No memory is taken.
+    pub fn new(alloc: Global, number: u64) -> Queues
+        ensures { result ≡ record { number = number; to0 = []; to1 = [] } }
+    {
+        Queues {
+            number,
+            to0: Vec::new(alloc),
+            to1: Vec::new(alloc),
+        }
+    }
+
+    /// A pair with copies of the messages.
+    pub fn of(alloc: Global, pair: &Pair) -> Result<Queues, NoMemory>
+        ensures { IfOk result (λ e. e ≡ pair.now) }
+    {
+        let to0 = copy_messages(alloc, pair.to0.as_slice())?;
+        let to1 = copy_messages(alloc, pair.to1.as_slice())?;
+        Ok(Queues {
+            number: pair.number,
+            to0: to0.into_vec(),
+            to1: to1.into_vec(),
+        })
+    }
+
+    /// A copy of the pair and its messages.
+    pub fn copy(&self, alloc: Global) -> Result<Pair, NoMemory>
+        ensures { IfOk result (λ p. p ≡ self.now) }
+    {
+        let to0 = copy_messages(alloc, &self.to0)?;
+        let to1 = copy_messages(alloc, &self.to1)?;
+        Ok(Pair {
+            number: self.number,
+            to0,
+            to1,
+        })
+    }
+
+    pub fn number(&self) -> u64
+        ensures { result ≡ self.now.number }
+    {
+        self.number
+    }
+
+    /// The messages that wait at an end, 0 or 1.
+    pub fn messages(&self, end: u8) -> &[Seq<u8>]
+        ensures { result.now ≡ messages_to self.now end }
+    {
+        if end == 0 {
+            self.to0.as_slice()
+        } else {
+            self.to1.as_slice()
+        }
+    }
+
+    /// Sends a message to an end.
+    pub fn send(&mut self, alloc: Global, to: u8, bytes: &[u8], peer: bool) -> Sending
+        ensures answer { let waiting = messages_to self.old to in
+            IsOrNoMemory (send_answer waiting bytes.now peer) result }
+        ensures pair { let waiting = messages_to self.old to in
+            self.new ≡ with_messages self.old to (sent_messages result waiting bytes.now) }
+    {
+        if to == 0 {
+            post(alloc, &mut self.to0, bytes, peer)
+        } else {
+            post(alloc, &mut self.to1, bytes, peer)
+        }
+    }
+
+    /// Takes the first message that waits at an end.
+    pub fn recv(&mut self, end: u8, into: &mut [u8], peer: bool) -> Pull
+        ensures answer { result ≡ recv_answer (messages_to self.old end) (length into.old) peer }
+        ensures pair { let waiting = messages_to self.old end in
+            self.new ≡ with_messages self.old end (left_messages waiting (length into.old)) }
+        ensures given { let waiting = messages_to self.old end in
+            into.new ≡ take (pulled_count result) (first_message waiting)
+            ++ drop (pulled_count result) into.old }
+    {
+        if end == 0 {
+            fetch(&mut self.to0, into, peer)
+        } else {
+            fetch(&mut self.to1, into, peer)
+        }
+    }
+
+    /// Drops the messages that wait at an end.
+    pub fn empty(&mut self, end: u8)
+        ensures { self.new ≡ with_messages self.old end [] }
+    {
+        if end == 0 {
+            self.to0.clear();
+        } else {
+            self.to1.clear();
+        }
+    }
+}
