@@ -1,13 +1,12 @@
 -- The image that a stop within a call leaves, and that it is one of those allowed.
 use Rattle.std.proofs.Common.{◌≡◌, ◌⊎◌, inl, inr, ⊎_elim, ℕ, zero, suc, ◌+◌, ◌-◌, ◌*◌, ◌<◌, ◌≤◌, true, false, List, [], ◌∷◌, length, drop, replicate, get_or, slice_range, refl, sym, ◌∙◌, subst, arith, length-take}
 use Rattle.std.proofs.lemmas.List.{length-replicate, drop-drop}
-use Rattle.lists.specs.Bytes.{put, SameOutside, same_itself, put_same, length-put}
-use Rattle.dev_traits.specs.Disk.{AreBytes}
+use Rattle.lists.specs.Bytes.{put, SameOutside, same_itself, put_same, length-put, AreBytes}
 use Rattle.dev_traits.specs.declared.mem.record.Call.{Call}
 use Rattle.dev_traits.specs.declared.mem.record.Call.TheVariants.{Read, Write, Sync}
 use Rattle.dev_traits.specs.declared.mem.record.Fill.{Fill}
 use Rattle.dev_traits.specs.declared.mem.record.Fill.TheVariants.{Old, New, Byte}
-use Rattle.dev_traits.specs.Record.{Event, read_call, write_call, sync_call, reading_of, settled_of, pending_of, ranges_of, IsStopOf, HadLeft, LeftSince, fill_put, filled, within_call, image_in, events_onto, IsWithin}
+use Rattle.dev_traits.specs.Record.{Event, read_call, write_call, sync_call, reading_of, settled_of, pending_of, ranges_of, IsStopOf, HadLeft, LeftSince, fill_put, filled, within_call, image_in, events_onto, IsCallWithin}
 use Rattle.dev_traits.specs.RecordLaws.{more_ranges, fewer_since}
 use Rattle.dev_traits.proofs.Stops.{same_first}
 
@@ -18,7 +17,7 @@ AllFit size (read_call ∷ older) = AllFit size older
 AllFit size (write_call place bytes done ∷ older) = (place + length bytes ≤ size) × AllFit size older
 AllFit size (sync_call done ∷ older) = AllFit size older
 
-pub onto_fits : (size : ℕ) (written : List ℕ) (older : List Event) (calls : List Call) → AllFit size older → ((k : ℕ) (d : Call) → k < length calls → IsWithin size (length written) (get_or calls k d)) → AllFit size (events_onto written older calls)
+pub onto_fits : (size : ℕ) (written : List ℕ) (older : List Event) (calls : List Call) → AllFit size older → ((k : ℕ) (d : Call) → k < length calls → IsCallWithin size (length written) (get_or calls k d)) → AllFit size (events_onto written older calls)
 onto_fits size written older [] fit within = fit
 onto_fits size written older (Read ∷ calls) fit within = onto_fits size written (read_call ∷ older) calls fit (λ k d lt. within (suc k) d (omega arith))
 onto_fits size written older (Write place from n done ∷ calls) fit within =

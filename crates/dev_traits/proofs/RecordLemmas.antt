@@ -4,7 +4,7 @@ use Rattle.std.proofs.lemmas.Bool.{cases_lt, false≢true}
 use Rattle.std.proofs.lemmas.List.{take_more, drop_at, take-append-le, drop-append-le, get_or_append_left, get_or-append_right, take-append-drop}
 use Rattle.dev_traits.specs.declared.mem.record.Call.{Call}
 use Rattle.dev_traits.specs.declared.mem.record.Call.TheVariants.{Read, Write, Sync}
-use Rattle.dev_traits.specs.Record.{Event, read_call, write_call, sync_call, is_settling, after_event, reading_of, settled_of, pending_of, event_of, events_onto, IsWithin, IsRecord, RecordView}
+use Rattle.dev_traits.specs.Record.{Event, read_call, write_call, sync_call, is_settling, after_event, reading_of, settled_of, pending_of, event_of, events_onto, IsCallWithin, IsRecord, RecordView}
 
 pub onto_push : (written : List ℕ) (older : List Event) (calls : List Call) (call : Call) → events_onto written older (calls ++ call ∷ []) ≡ event_of written call ∷ events_onto written older calls
 onto_push written older [] call = refl
@@ -52,12 +52,12 @@ piece_same written more from n le =
     ap (take (from + n - from)) (drop-append-le from written more (omega arith))
     ∙ take-append-le (from + n - from) (drop from written) more (omega (arith, length-drop from written))
 
-event_same : (size : ℕ) (written more : List ℕ) (call : Call) → IsWithin size (length written) call → event_of (written ++ more) call ≡ event_of written call
+event_same : (size : ℕ) (written more : List ℕ) (call : Call) → IsCallWithin size (length written) call → event_of (written ++ more) call ≡ event_of written call
 event_same size written more Read within = refl
 event_same size written more (Write place from n done) within = ap (λ (l : List ℕ). write_call place l done) (piece_same written more from n within.1)
 event_same size written more (Sync done) within = refl
 
-pub onto_same : (size : ℕ) (written more : List ℕ) (older : List Event) (calls : List Call) → ((k : ℕ) (d : Call) → k < length calls → IsWithin size (length written) (get_or calls k d)) → events_onto (written ++ more) older calls ≡ events_onto written older calls
+pub onto_same : (size : ℕ) (written more : List ℕ) (older : List Event) (calls : List Call) → ((k : ℕ) (d : Call) → k < length calls → IsCallWithin size (length written) (get_or calls k d)) → events_onto (written ++ more) older calls ≡ events_onto written older calls
 onto_same size written more older [] within = refl
 onto_same size written more older (c ∷ calls) within =
     ap (λ (e : Event). events_onto (written ++ more) (e ∷ older) calls) (event_same size written more c (within zero c (omega arith)))
@@ -74,7 +74,7 @@ new_piece written bytes =
     take_full [] = refl
     take_full (x ∷ l) = ap (λ (r : List ℕ). x ∷ r) (take_full l)
 
-within_more : (size used more : ℕ) (call : Call) → IsWithin size used call → IsWithin size (used + more) call
+within_more : (size used more : ℕ) (call : Call) → IsCallWithin size used call → IsCallWithin size (used + more) call
 within_more size used more Read within = tt
 within_more size used more (Write place from n done) within = (within.0, omega (arith, within.1))
 within_more size used more (Sync done) within = tt
@@ -92,14 +92,14 @@ module _ (size room : ℕ) (calls calls' : List Call) (written written' more : L
       omega (arith, length-onto written [] calls, e)
 
   module _ (pushed : calls' ≡ calls ++ call ∷ []) (extended : written' ≡ written ++ more) where
-    each : (k : ℕ) (d : Call) → IsWithin size (length written + length more) call → k ≤ length calls → (k < length calls) ⊎ (length calls ≤ k) → IsWithin size (length written + length more) (get_or (calls ++ call ∷ []) k d)
+    each : (k : ℕ) (d : Call) → IsCallWithin size (length written + length more) call → k ≤ length calls → (k < length calls) ⊎ (length calls ≤ k) → IsCallWithin size (length written + length more) (get_or (calls ++ call ∷ []) k d)
     each k d here le (inl lt) =
-        subst (λ (c : Call). IsWithin size (length written + length more) c) (sym (get_or_append_left calls (call ∷ []) d k lt)) (within_more size (length written) (length more) (get_or calls k d) (is.within k d lt))
+        subst (λ (c : Call). IsCallWithin size (length written + length more) c) (sym (get_or_append_left calls (call ∷ []) d k lt)) (within_more size (length written) (length more) (get_or calls k d) (is.within k d lt))
     each k d here le (inr ge) =
         let at : k - length calls ≡ 0 = omega arith in
-        subst (λ (c : Call). IsWithin size (length written + length more) c) (sym (get_or-append_right calls (call ∷ []) (length calls) k d refl ge ∙ ap (λ (j : ℕ). get_or (call ∷ []) j d) at)) here
+        subst (λ (c : Call). IsCallWithin size (length written + length more) c) (sym (get_or-append_right calls (call ∷ []) (length calls) k d refl ge ∙ ap (λ (j : ℕ). get_or (call ∷ []) j d) at)) here
 
-    pub keeps : length more ≤ 4096 → IsWithin size (length written + length more) call → call_room ≤ call_room' → byte_room ≤ byte_room' → IsRecord size room calls' written' call_room' byte_room'
+    pub keeps : length more ≤ 4096 → IsCallWithin size (length written + length more) call → call_room ≤ call_room' → byte_room ≤ byte_room' → IsRecord size room calls' written' call_room' byte_room'
     keeps few here le_calls le_bytes =
         let n : length calls' ≡ length calls + 1 = omega (arith, ap length pushed, length-append calls (call ∷ [])) in
         let m : length written' ≡ length written + length more = ap length extended ∙ length-append written more in
@@ -110,8 +110,8 @@ module _ (size room : ℕ) (calls calls' : List Call) (written written' more : L
           room_for_calls = omega (arith, is.room_for_calls, le_calls);
           room_for_bytes = omega (arith, is.room_for_bytes, le_bytes);
           within = λ k d k_lt.
-              subst (λ (used : ℕ). IsWithin size used (get_or calls' k d)) (sym m)
-              (subst (λ (l : List Call). IsWithin size (length written + length more) (get_or l k d)) (sym pushed) (each k d here (omega (arith, n, k_lt)) (cases_lt k (length calls))));
+              subst (λ (used : ℕ). IsCallWithin size used (get_or calls' k d)) (sym m)
+              (subst (λ (l : List Call). IsCallWithin size (length written + length more) (get_or l k d)) (sym pushed) (each k d here (omega (arith, n, k_lt)) (cases_lt k (length calls))));
         }
 
     pub shows_more : (event : Event) → event_of (written ++ more) call ≡ event → shown size room (events_onto written' [] calls') ≡ shown value.size value.room (event ∷ value.events)

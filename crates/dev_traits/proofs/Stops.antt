@@ -3,8 +3,8 @@ use Rattle.std.proofs.Common.{◌≡◌, ◌⊎◌, inl, inr, ⊎_elim, ℕ, zer
 use Rattle.std.proofs.lemmas.Bool.{cases_lt, false≢true, le-leb}
 use Rattle.std.proofs.lemmas.List.{get_or-take, get_or-drop}
 use Rattle.std.specs.List.{list_any}
-use Rattle.lists.specs.Bytes.{SameOutside, IsOutside, put, same_all, length-put, put_below, put_within, put_above, put_same}
-use Rattle.dev_traits.specs.Disk.{AreBytes, Passes, Torn}
+use Rattle.lists.specs.Bytes.{SameOutside, IsOutside, put, same_all, length-put, put_below, put_within, put_above, put_same, AreBytes, are_bytes, byte_below}
+use Rattle.dev_traits.specs.Disk.{Passes, Torn}
 use Rattle.dev_traits.specs.RecordLaws.{one_more_range}
 use Rattle.dev_traits.specs.Record.{Event, write_call, sync_call, IsStopOf, LeftSince, reading_of, settled_of, pending_of, ranges_of, told_view, is_refused, RecordView, Notes, NotesWrite}
 
@@ -12,21 +12,16 @@ use Rattle.dev_traits.specs.Record.{Event, write_call, sync_call, IsStopOf, Left
 pub same_first : (x : ℕ × ℕ) (ranges : List (ℕ × ℕ)) (a b c : List ℕ) → SameOutside ranges a b → SameOutside (x ∷ []) b c → SameOutside (x ∷ ranges) a c
 same_first x ranges a b c first second = record { size = second.size ∙ first.size; each = λ i out. second.each i (out.0, tt) ∙ first.each i out.1 }
 
-none_there : (l : List ℕ) (k : ℕ) → length l ≤ k → slice_index l k ≡ 0
-none_there [] k far = refl
-none_there (x ∷ l) zero far = absurd (omega arith)
-none_there (x ∷ l) (suc k) far = none_there l k (omega arith)
-
 -- bytes put into bytes
 pub put_bytes : (old : List ℕ) (place : ℕ) (bytes : List ℕ) → place + length bytes ≤ length old → AreBytes old → AreBytes bytes → AreBytes (put old place bytes)
-put_bytes old place bytes fits a b i = at (cases_lt i place) (cases_lt i (place + length bytes))
+put_bytes old place bytes fits a b = are_bytes (put old place bytes) (λ i there. at i (cases_lt i place) (cases_lt i (place + length bytes)))
   where
-    at : (i < place) ⊎ (place ≤ i) → (i < place + length bytes) ⊎ (place + length bytes ≤ i) → slice_index (put old place bytes) i < 256
-    at (inl lt) far = subst (λ (n : ℕ). n < 256) (sym (put_below old place bytes fits i lt)) (a i)
-    at (inr le) (inl lt) =
+    at : (i : ℕ) → (i < place) ⊎ (place ≤ i) → (i < place + length bytes) ⊎ (place + length bytes ≤ i) → slice_index (put old place bytes) i < 256
+    at i (inl lt) far = subst (λ (n : ℕ). n < 256) (sym (put_below old place bytes fits i lt)) (byte_below old a i)
+    at i (inr le) (inl lt) =
         let e : place + (i - place) ≡ i = omega arith in
-        subst (λ (n : ℕ). n < 256) (sym (subst (λ (k : ℕ). slice_index (put old place bytes) k ≡ slice_index bytes (i - place)) e (put_within old place bytes fits (i - place) (omega arith)))) (b (i - place))
-    at (inr le) (inr far) = subst (λ (n : ℕ). n < 256) (sym (put_above old place bytes fits i far)) (a i)
+        subst (λ (n : ℕ). n < 256) (sym (subst (λ (k : ℕ). slice_index (put old place bytes) k ≡ slice_index bytes (i - place)) e (put_within old place bytes fits (i - place) (omega arith)))) (byte_below bytes b (i - place))
+    at i (inr le) (inr far) = subst (λ (n : ℕ). n < 256) (sym (put_above old place bytes fits i far)) (byte_below old a i)
 
 -- An image with any bytes in one more range, and one without them.
 module _ (settled : List ℕ) (ranges : List (ℕ × ℕ)) (place size : ℕ) (fits : place + size ≤ length settled) (bytes : AreBytes settled)
@@ -43,11 +38,7 @@ module _ (settled : List ℕ) (ranges : List (ℕ × ℕ)) (place size : ℕ) (f
   middle_at i lt = get_or-take size (drop place settled) i 0 lt ∙ get_or-drop place settled i 0
 
   middle_bytes : AreBytes middle
-  middle_bytes i = at (cases_lt i size)
-    where
-      at : (i < size) ⊎ (size ≤ i) → slice_index middle i < 256
-      at (inl lt) = subst (λ (n : ℕ). n < 256) (sym (middle_at i lt)) (bytes (place + i))
-      at (inr le) = subst (λ (n : ℕ). n < 256) (sym (none_there middle i (omega (arith, length-middle)))) (omega arith)
+  middle_bytes = are_bytes middle (λ i lt. subst (λ (n : ℕ). n < 256) (sym (middle_at i (omega (arith, lt, length-middle)))) (byte_below settled bytes (place + i)))
 
   -- the image, with the settled bytes in the range
   was : List ℕ

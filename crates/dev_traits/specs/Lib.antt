@@ -4,6 +4,7 @@ pub mod Disk
 pub mod CommitLaws
 pub mod Since
 pub mod Outside
+pub mod SinkLaws
 pub mod Lost
 pub mod Record
 pub mod RecordLaws

@@ -9,16 +9,16 @@ abbrev pub disk_view : MemDisk → DiskView
 disk_view d = told_view d.blocks d.faults d.writes d.start.items d.bytes.items (lost_ranges d.lost) d.calls.events
 
 -- the calls in its record, the newest first
-abbrev pub calls_of : MemDisk → List Event
-calls_of d = d.calls.events
+abbrev pub disk_calls : MemDisk → List Event
+disk_calls d = d.calls.events
 
 -- how many calls there may be
 abbrev pub room_of : MemDisk → ℕ
 room_of d = d.calls.room
 
 -- the numbers of the calls that fail
-abbrev pub failing_of : MemDisk → List ℕ
-failing_of d = d.failing.items
+abbrev pub disk_failing : MemDisk → List ℕ
+disk_failing d = d.failing.items
 
 -- what it held before the first call
 abbrev pub start_of : MemDisk → List ℕ
@@ -29,7 +29,7 @@ abbrev pub is_refused_next : MemDisk → Bool
 is_refused_next d = is_refused d.calls.room d.failing.items (length d.calls.events)
 
 -- a disk with these bytes, and no call yet
-pub record IsNew (d : MemDisk) (given : List ℕ) (many : ℕ) : Type 0 where
+pub record IsNewDisk (d : MemDisk) (given : List ℕ) (many : ℕ) : Type 0 where
   pub holds : d.bytes.items ≡ take (4096 * (length given / 4096)) given
   pub start : d.start.items ≡ d.bytes.items
   pub blocks : d.blocks ≡ length given / 4096

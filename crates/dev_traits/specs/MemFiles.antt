@@ -16,8 +16,8 @@ abbrev pub files_view : MemFiles → FilesView
 files_view f = record { faults = f.faults; contents = Some (contents_in f.list.items) }
 
 -- the numbers of the reads that fail
-abbrev pub failing_of : MemFiles → List ℕ
-failing_of f = f.failing.items
+abbrev pub files_failing : MemFiles → List ℕ
+files_failing f = f.failing.items
 
 -- how many reads there were
 abbrev pub reads_of : MemFiles → ℕ

@@ -13,8 +13,8 @@ abbrev pub room_left : MemSink → ℕ
 room_left s = s.room
 
 -- the numbers of the puts that fail
-abbrev pub failing_of : MemSink → List ℕ
-failing_of s = s.failing.items
+abbrev pub sink_failing : MemSink → List ℕ
+sink_failing s = s.failing.items
 
 -- how many puts there were
 abbrev pub puts_of : MemSink → ℕ

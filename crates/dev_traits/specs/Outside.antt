@@ -1,5 +1,5 @@
 -- A sink and files as contracts see them.
-use Rattle.std.specs.Prelude.{◌≡◌, ℕ, ◌+◌, List, ◌++◌, length, Option}
+use Rattle.std.specs.Prelude.{◌≡◌, ℕ, ◌+◌, ◌<◌, List, ◌++◌, length, take, Option}
 use Rattle.std.specs.Option.{option_map}
 
 pub record SinkView : Type 0 where
@@ -13,6 +13,10 @@ pub record SinkView : Type 0 where
 pub record Takes (piece : List ℕ) (before after : SinkView) : Type 0 where
   pub count : after.count ≡ before.count + length piece
   pub bytes : after.bytes ≡ option_map (λ held. held ++ piece) before.bytes
+
+-- it took the first of these bytes, not all
+abbrev pub TakesPart : List ℕ → SinkView → SinkView → Type 0
+TakesPart bytes before after = (m : ℕ) × (m < length bytes) × Takes (take m bytes) before after
 
 -- it took nothing
 pub record TakesNothing (before after : SinkView) : Type 0 where

@@ -1,12 +1,12 @@
 -- The calls that a disk in memory has had, the newest first, and what they leave.
 use Rattle.std.specs.Prelude.{◌≡◌, ◌⊎◌, ℕ, ◌+◌, ◌*◌, ◌<◌, ◌≤◌, ◌==◌, nat_le, Bool, true, false, ◌||◌, if◌then◌else◌, Some, None, List, [], ◌∷◌, ◌++◌, length, replicate, slice_range}
 use Rattle.std.specs.List.{slice_index_or, list_any}
-use Rattle.lists.specs.Bytes.{put, SameOutside}
+use Rattle.lists.specs.Bytes.{put, SameOutside, AreBytes}
 use Rattle.dev_traits.specs.declared.mem.record.Call.{Call}
 use Rattle.dev_traits.specs.declared.mem.record.Call.TheVariants.{Read, Write, Sync}
 use Rattle.dev_traits.specs.declared.mem.record.Fill.{Fill}
 use Rattle.dev_traits.specs.declared.mem.record.Fill.TheVariants.{Old, New, Byte}
-use Rattle.dev_traits.specs.Disk.{AreBytes, DiskView}
+use Rattle.dev_traits.specs.Disk.{DiskView}
 
 -- a call, and whether it answered Ok; a write has its place and bytes
 pub data Event : Type 0 where
@@ -114,10 +114,10 @@ events_onto written older [] = older
 events_onto written older (call ∷ calls) = events_onto written (event_of written call ∷ older) calls
 
 -- its write lies in the disk, and its bytes in the list
-abbrev pub IsWithin : ℕ → ℕ → Call → Type 0
-IsWithin size used Read = Unit {0}
-IsWithin size used (Write place from n done) = (place + n ≤ size) × (from + n ≤ used)
-IsWithin size used (Sync done) = Unit {0}
+abbrev pub IsCallWithin : ℕ → ℕ → Call → Type 0
+IsCallWithin size used Read = Unit {0}
+IsCallWithin size used (Write place from n done) = (place + n ≤ size) × (from + n ≤ used)
+IsCallWithin size used (Sync done) = Unit {0}
 
 -- what a record shows: the disk's size in bytes, for how many calls there is room, and the calls
 pub record RecordView : Type 0 where
@@ -131,7 +131,7 @@ pub record IsRecord (size room : ℕ) (calls : List Call) (written : List ℕ) (
   pub short : length written ≤ 4096 * length calls
   pub room_for_calls : room ≤ call_room
   pub room_for_bytes : 4096 * room ≤ byte_room
-  pub within : (k : ℕ) (d : Call) → k < length calls → IsWithin size (length written) (slice_index_or calls k d)
+  pub within : (k : ℕ) (d : Call) → k < length calls → IsCallWithin size (length written) (slice_index_or calls k d)
 
 -- The call joins the record where there is room. A refused one above the room leaves it as it is.
 abbrev pub Notes : Event → RecordView → RecordView → Type 0

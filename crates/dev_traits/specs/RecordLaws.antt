@@ -2,8 +2,7 @@
 use Rattle.std.specs.Prelude.{◌≡◌, ℕ, ◌*◌, ◌≤◌, List, [], ◌∷◌, ◌++◌, length, Some}
 use Rattle.std.proofs.Common.{inl, inr, ⊎_elim, subst, arith}
 use Rattle.std.specs.Option.{ForSome}
-use Rattle.lists.specs.Bytes.{SameOutside}
-use Rattle.dev_traits.specs.Disk.{AreBytes}
+use Rattle.lists.specs.Bytes.{SameOutside, AreBytes}
 use Rattle.dev_traits.specs.Record.{Event, HadLeft, LeftSince, settled_of, pending_of, ranges_of}
 
 pub one_more_range : (x : ℕ × ℕ) (ranges : List (ℕ × ℕ)) (a b : List ℕ) → SameOutside ranges a b → SameOutside (x ∷ ranges) a b

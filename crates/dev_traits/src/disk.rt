@@ -2,7 +2,8 @@ ghost use Rattle.std.specs.Prelude.{◌≡◌, ◌+◌, ◌*◌, ◌≤◌, ℕ,
 ghost use Rattle.std.specs.Option.{ForSome};
 ghost use Rattle.dev_traits.specs.Counts.{HasCause, one_more};
 ghost use Rattle.dev_traits.specs.Commits.{wrote, synced, unchanged};
-ghost use Rattle.dev_traits.specs.Disk.{DiskView, LeftNow, AreBytes, Passes, NoMore, NoLess, Torn, OnlyReading, Puts, Tears, CommitsBy};
+ghost use Rattle.dev_traits.specs.Disk.{DiskView, LeftNow, Passes, NoMore, NoLess, Torn, OnlyReading, Puts, Tears, CommitsBy};
+ghost use Rattle.lists.specs.Bytes.{AreBytes};
 
 /// A call of a disk or a sink that failed.
 #[derive(Clone, Copy, Debug, Drop, PartialEq, Eq)]
@@ -23,7 +24,9 @@ pub trait Disk {
     /// Reads the bytes from `place` on; after a failure `into` may hold anything.
     fn read_at(&mut self, place: u64, into: &mut [u8]) -> Result<(), Failed>
         requires { place + length into.old ≤ 4096 * (view self.old).blocks }
-        ensures bytes { OnOk result (ForSome (view self.old).reading (λ r. into.new ≡ slice_range r place (place + length into.old))) }
+        ensures bytes { OnOk result
+            (ForSome (view self.old).reading
+            (λ r. into.new ≡ slice_range r place (place + length into.old))) }
         ensures reading { (view self.new).reading ≡ (view self.old).reading }
         ensures no_more { NoMore (view self.old) (view self.new) }
         ensures no_less { NoLess (view self.old) (view self.new) }
@@ -38,10 +41,12 @@ pub trait Disk {
         requires within { place + length bytes.now ≤ 4096 * (view self.old).blocks }
         requires few { length bytes.now ≤ 4096 }
         ensures ok { OnOk result (Puts place bytes.now (view self.old) (view self.new)) }
-        ensures err { OnErr result (Tears place (length bytes.now) (view self.old) (view self.new)) }
+        ensures err { OnErr result
+            (Tears place (length bytes.now) (view self.old) (view self.new)) }
         ensures torn { Torn place (length bytes.now) (view self.old) (view self.new) }
         ensures time { Passes (view self.old) (view self.new) }
-        ensures commits { OnOk result (CommitsBy (wrote place bytes.now) (view self.old) (view self.new)) }
+        ensures commits { OnOk result
+            (CommitsBy (wrote place bytes.now) (view self.old) (view self.new)) }
         ensures commits_err { OnErr result (CommitsBy unchanged (view self.old) (view self.new)) }
         ensures blocks { (view self.new).blocks ≡ (view self.old).blocks }
         ensures writes { (view self.new).writes ≡ one_more (view self.old).writes }
@@ -64,11 +69,14 @@ pub trait Disk {
     ghost reading_left: { (d : Self) → ForSome (view d).reading (λ r. LeftNow (view d) r) };
 
     /// A later start allows no further image.
-    ghost fewer_later: { (d : Self) (t u : ℕ) (image : List ℕ) → t ≤ u → (view d).left u image → (view d).left t image };
+    ghost fewer_later: { (d : Self) (t u : ℕ) (image : List ℕ) → t ≤ u → (view d).left u image
+        → (view d).left t image };
 
     /// Each image has the disk's size.
-    ghost image_size: { (d : Self) (t : ℕ) (image : List ℕ) → (view d).left t image → length image ≡ 4096 * (view d).blocks };
+    ghost image_size: { (d : Self) (t : ℕ) (image : List ℕ) → (view d).left t image
+        → length image ≡ 4096 * (view d).blocks };
 
     /// Each image is of bytes.
-    ghost image_bytes: { (d : Self) (t : ℕ) (image : List ℕ) → (view d).left t image → AreBytes image };
+    ghost image_bytes: { (d : Self) (t : ℕ) (image : List ℕ) → (view d).left t image
+        → AreBytes image };
 }

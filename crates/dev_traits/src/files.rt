@@ -28,7 +28,10 @@ pub trait Files {
 
     /// The whole file, or None where no file has that name.
     fn read(&mut self, alloc: Global, name: &str) -> Result<Option<Vec<u8>>, FilesFailed>
-        ensures whole { IfOk result (λ found. ForSome (view self.old).contents (λ held. option_map (λ v. v.items) found ≡ held name.now)) }
+        ensures whole { IfOk result
+            (λ found. ForSome (view self.old).contents
+            (λ held. option_map (λ v. v.items) found ≡ held name.now)) }
         ensures contents { (view self.new).contents ≡ (view self.old).contents }
-        ensures faults { HasCause (view self.old).faults (view self.new).faults (IsErrOf result FilesFailed.Failed) };
+        ensures faults { HasCause (view self.old).faults (view self.new).faults
+            (IsErrOf result FilesFailed.Failed) };
 }

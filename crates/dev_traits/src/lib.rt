@@ -18,5 +18,5 @@ mod word;
 pub use disk::{Disk, Failed};
 pub use files::{Files, FilesFailed};
 pub use gate::{Gate, Place};
-pub use sink::Sink;
+pub use sink::{Sink, put_all};
 pub use word::Word;

@@ -1,7 +1,7 @@
-ghost use Rattle.std.specs.Prelude.{◌≡◌, ◌<◌, ◌≤◌, length, take, OnErr, IfOk, IsErr};
+ghost use Rattle.std.specs.Prelude.{◌≡◌, ◌<◌, ◌≤◌, length, take, OnOk, OnErr, IfOk, IsErr};
 ghost use Rattle.std.specs.Option.{ForSome};
 ghost use Rattle.dev_traits.specs.Counts.{HasCause};
-ghost use Rattle.dev_traits.specs.Outside.{SinkView, Takes, TakesNothing};
+ghost use Rattle.dev_traits.specs.Outside.{SinkView, Takes, TakesPart, TakesNothing};
 
 use crate::disk::Failed;
 
@@ -23,4 +23,21 @@ pub trait Sink {
 
     /// The count is that of the bytes.
     ghost counted: { (s : Self) → ForSome (view s).bytes (λ bytes. length bytes ≡ (view s).count) };
+}
+
+/// Adds all the bytes at the end, in as many puts as the sink wants. After a failure it has taken the first of them,
+/// not all.
+pub fn put_all<S: Sink>(sink: &mut S, bytes: &[u8]) -> Result<(), Failed>
+    ensures ok { OnOk result (Takes bytes.now (S.view sink.old) (S.view sink.new)) }
+    ensures err { OnErr result (TakesPart bytes.now (S.view sink.old) (S.view sink.new)) }
+    ensures faults { HasCause (S.view sink.old).faults (S.view sink.new).faults (IsErr result) }
+{
+    let mut done = 0;
+    while done < bytes.len() {
+        match sink.put(&bytes[done..]) {
+            Ok(n) => done += n,
+            Err(failed) => return Err(failed),
+        }
+    }
+    Ok(())
 }

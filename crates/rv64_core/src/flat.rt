@@ -4,7 +4,7 @@ ghost use Rattle.std.specs.Prelude.{◌≡◌, ℕ, ◌+◌, ◌*◌, ◌/◌, �
 ghost use Rattle.std.specs.Option.{option_map};
 ghost use Rattle.rv64_isa.specs.Memory.{bytes_with, byte_with, can_write, stored};
 ghost use Rattle.rv64_isa.specs.Numbers.{number_of};
-ghost use Rattle.rv64_core.specs.Flat.{flat_cells};
+ghost use Rattle.rv64_core.specs.Flat.{flat_cells, flat_private};
 
 use crate::space::Space;
 use lists::NoMemory;
@@ -92,6 +92,8 @@ impl Space for Flat {
     ghost table = { λ _. tt };
 
     ghost landed = { λ _ _ _. tt };
+
+    ghost all_private = { λ s address. flat_private s.rights.items s.bytes.items address };
 
     fn fetch(&self, pc: u64) -> Option<u32> {
         match self.number(4, pc, 4) {

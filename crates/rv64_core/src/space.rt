@@ -1,7 +1,7 @@
 //! The private memory of a process.
 
-ghost use Rattle.std.specs.Prelude.{◌≡◌, ℕ, ◌*◌, ◌^◌, ◌<◌, List, IfOk, OnErr, IfSome, MatchBool, IsTrue};
-ghost use Rattle.std.specs.Option.{option_map};
+ghost use Rattle.std.specs.Prelude.{◌≡◌, ℕ, ◌*◌, ◌^◌, ◌<◌, List, false, IfOk, OnErr, IfSome, MatchBool, IsTrue};
+ghost use Rattle.std.specs.Option.{ForSome, option_map};
 ghost use Rattle.rv64_isa.specs.Memory.{Cells, fetched, readable, can_write, stored};
 ghost use Rattle.rv64_isa.specs.Numbers.{bytes_of, number_of};
 ghost use Rattle.rv64_isa.specs.Instruction.{IsSize};
@@ -20,6 +20,10 @@ pub trait Space {
     ghost table: { Self → Self.Table };
 
     ghost landed: { Self.Table → ℕ → List ℕ → Self.Table };
+
+    /// What lies in a shared mapping has no cell here.
+    ghost all_private: { (s : Self) (address : ℕ) → ForSome (cells s address)
+        (λ c. c.shared ≡ false) };
 
     /// The word at pc; none where one of its four bytes isn't private or lacks EXEC.
     fn fetch(&self, pc: u64) -> Option<u32>

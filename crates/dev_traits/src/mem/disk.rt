@@ -1,7 +1,6 @@
 //! A disk in memory, which keeps a record of its calls.
 ghost use Rattle.std.specs.Prelude.{◌≡◌, ◌*◌, ◌<◌, [], length};
-ghost use Rattle.lists.specs.Bytes.{SameOutside};
-ghost use Rattle.dev_traits.specs.Disk.{AreBytes};
+ghost use Rattle.lists.specs.Bytes.{SameOutside, AreBytes, AreBytes-prop};
 ghost use Rattle.dev_traits.specs.Record.{reading_of, settled_of, pending_of, ranges_of};
 ghost use Rattle.dev_traits.specs.Lost.{lost_ranges};
 
@@ -23,9 +22,10 @@ pub struct MemDisk {
     ghost size: { calls.size ≡ 4096 * blocks },
     ghost start_whole: { length start.items ≡ 4096 * blocks },
     ghost whole: { length bytes.items ≡ 4096 * blocks },
-    ghost fits: { AreBytes bytes.items },
-    ghost settled_fits: { AreBytes (settled_of start.items calls.events) },
+    ghost fits: { AreBytes bytes.items } by { AreBytes-prop bytes.items },
+    ghost settled_fits: { AreBytes (settled_of start.items calls.events) } by { AreBytes-prop (settled_of start.items calls.events) },
     ghost reads: { bytes.items ≡ reading_of start.items calls.events },
-    ghost apart: { SameOutside (ranges_of (pending_of calls.events)) (settled_of start.items calls.events) bytes.items },
+    ghost apart: { SameOutside (ranges_of (pending_of calls.events))
+        (settled_of start.items calls.events) bytes.items },
     ghost unlost: { length calls.events < calls.room → lost_ranges lost ≡ [] },
 }

@@ -1,11 +1,10 @@
 //! The record of a disk's calls, whose memory is taken when it is made.
 ghost use Rattle.std.specs.Prelude.{◌≡◌, ◌+◌, ◌-◌, ◌*◌, ◌<◌, ◌≤◌, ◌↔◌, ℕ, List, [], ◌∷◌, length, take, drop, replicate, IfOk, IfSome, IsNone, IsTrue};
-ghost use Rattle.lists.specs.Bytes.{put};
+ghost use Rattle.lists.specs.Bytes.{put, AreBytes};
 ghost use Rattle.std.specs.List.{slice_index_or};
-ghost use Rattle.dev_traits.specs.Disk.{AreBytes};
-ghost use Rattle.dev_traits.specs.Record.{read_call, write_call, sync_call, is_settling, after_event, reading_of, settled_of, pending_of, event_of, events_onto, within_call, fill_put, fill_event, filled, image_in, IsStopOf, IsWithin};
+ghost use Rattle.dev_traits.specs.Record.{read_call, write_call, sync_call, is_settling, after_event, reading_of, settled_of, pending_of, event_of, events_onto, within_call, fill_put, fill_event, filled, image_in, IsStopOf, IsCallWithin};
 
-use lists::NoMemory;
+use lists::{NoMemory, bytes_fit};
 use std::alloc::Global;
 use std::marker::Model;
 
@@ -51,7 +50,8 @@ impl Model for Record {
 
     ghost view = { λ r. record { size = r.size; room = r.room; events = events_onto r.written.items [] r.calls.items } };
 
-    ghost invariant = { λ r. IsRecord r.size r.room r.calls.items r.written.items (vec_capacity r.calls) (vec_capacity r.written) };
+    ghost invariant = { λ r. IsRecord r.size r.room r.calls.items r.written.items
+        (vec_capacity r.calls) (vec_capacity r.written) };
 }
 
 impl Record {
@@ -116,7 +116,8 @@ impl Record {
         requires free { length self.old.events < self.old.room }
         requires within { place + length bytes.now ≤ self.old.size }
         requires few { length bytes.now ≤ 4096 }
-        ensures { self.new ≡ record self.old { events = write_call place bytes.now done ∷ self.old.events } }
+        ensures { self.new
+            ≡ record self.old { events = write_call place bytes.now done ∷ self.old.events } }
     {
         let from = self.written.len();
         let _ = self.written.extend_from_slice(bytes);
@@ -139,10 +140,14 @@ impl Record {
     ) -> Result<Vec<u8>, NoMemory>
         requires whole { length start.now ≡ self.now.size }
         requires there { (1 ≤ call) × (call ≤ length self.now.events) }
-        ensures image { IfOk result (λ image. image.items ≡ image_in fill start.now (drop (length self.now.events - call) self.now.events)) }
+        ensures image { IfOk result
+            (λ image. image.items
+            ≡ image_in fill start.now (drop (length self.now.events - call) self.now.events)) }
         ensures bytes { IfOk result (λ image. AreBytes image.items) }
         ensures size { IfOk result (λ image. length image.items ≡ self.now.size) }
-        ensures stop { IfOk result (λ image. IsStopOf start.now [] (within_call (drop (length self.now.events - call) self.now.events)) image.items) }
+        ensures stop { IfOk result
+            (λ image. IsStopOf start.now []
+            (within_call (drop (length self.now.events - call) self.now.events)) image.items) }
     {
         let mut image = copy_of(alloc, start)?;
         make_image(
@@ -158,7 +163,8 @@ impl Record {
 // From what stood before the first call to what a stop within the last one leaves.
 fn make_image(image: &mut [u8], calls: &[Call], written: &[u8], fill: Fill)
     requires some { 0 < length calls.now }
-    requires within { (k : ℕ) (d : _) → k < length calls.now → IsWithin (length image.old) (length written.now) (slice_index_or calls.now k d) }
+    requires within { (k : ℕ) (d : _) → k < length calls.now
+        → IsCallWithin (length image.old) (length written.now) (slice_index_or calls.now k d) }
     ensures image { image.new ≡ image_in fill image.old (events_onto written.now [] calls.now) }
     ensures bytes { AreBytes image.new }
 {
@@ -166,13 +172,16 @@ fn make_image(image: &mut [u8], calls: &[Call], written: &[u8], fill: Fill)
     let synced = last_sync(calls);
     replay(image, &calls[..synced], written);
     lay_pending(image, &calls[synced..], written, fill);
+    bytes_fit(image);
 }
 
 // How many calls have their writes pending within the last one: a sync's own end is not in it.
 fn stop_point(calls: &[Call]) -> usize
     requires { 0 < length calls.now }
     ensures bound { result ≤ length calls.now }
-    ensures calls { (written : List ℕ) → within_call (events_onto written [] calls.now) ≡ events_onto written [] (take result calls.now) }
+    ensures calls { (written : List ℕ)
+        → within_call (events_onto written [] calls.now)
+        ≡ events_onto written [] (take result calls.now) }
 {
     match calls[calls.len() - 1] {
         Call::Write { .. } => calls.len(),
@@ -183,8 +192,12 @@ fn stop_point(calls: &[Call]) -> usize
 // How many calls there are up to the last sync that answered Ok.
 fn last_sync(calls: &[Call]) -> usize
     ensures bound { result ≤ length calls.now }
-    ensures settled { (written start : List ℕ) → settled_of start (events_onto written [] calls.now) ≡ reading_of start (events_onto written [] (take result calls.now)) }
-    ensures pending { (written : List ℕ) → pending_of (events_onto written [] calls.now) ≡ events_onto written [] (drop result calls.now) }
+    ensures settled { (written start : List ℕ)
+        → settled_of start (events_onto written [] calls.now)
+        ≡ reading_of start (events_onto written [] (take result calls.now)) }
+    ensures pending { (written : List ℕ)
+        → pending_of (events_onto written [] calls.now)
+        ≡ events_onto written [] (drop result calls.now) }
 {
     let mut synced = 0;
     for i in 0..calls.len() {
@@ -206,7 +219,8 @@ fn settles(call: Call) -> bool
 
 // Puts the bytes of each write that answered Ok.
 fn replay(image: &mut [u8], calls: &[Call], written: &[u8])
-    requires { (k : ℕ) (d : _) → k < length calls.now → IsWithin (length image.old) (length written.now) (slice_index_or calls.now k d) }
+    requires { (k : ℕ) (d : _) → k < length calls.now
+        → IsCallWithin (length image.old) (length written.now) (slice_index_or calls.now k d) }
     ensures { image.new ≡ reading_of image.old (events_onto written.now [] calls.now) }
 {
     for call in calls {
@@ -215,7 +229,7 @@ fn replay(image: &mut [u8], calls: &[Call], written: &[u8])
 }
 
 fn replay_one(image: &mut [u8], call: Call, written: &[u8])
-    requires { IsWithin (length image.old) (length written.now) call }
+    requires { IsCallWithin (length image.old) (length written.now) call }
     ensures { image.new ≡ after_event (event_of written.now call) image.old }
 {
     match call {
@@ -235,7 +249,8 @@ fn replay_one(image: &mut [u8], call: Call, written: &[u8])
 
 // Puts all writes, as the fill has them.
 fn lay_pending(image: &mut [u8], calls: &[Call], written: &[u8], fill: Fill)
-    requires { (k : ℕ) (d : _) → k < length calls.now → IsWithin (length image.old) (length written.now) (slice_index_or calls.now k d) }
+    requires { (k : ℕ) (d : _) → k < length calls.now
+        → IsCallWithin (length image.old) (length written.now) (slice_index_or calls.now k d) }
     ensures { image.new ≡ filled fill image.old (events_onto written.now [] calls.now) }
 {
     for call in calls {
@@ -244,7 +259,7 @@ fn lay_pending(image: &mut [u8], calls: &[Call], written: &[u8], fill: Fill)
 }
 
 fn lay_one(image: &mut [u8], call: Call, written: &[u8], fill: Fill)
-    requires { IsWithin (length image.old) (length written.now) call }
+    requires { IsCallWithin (length image.old) (length written.now) call }
     ensures { image.new ≡ fill_event fill (event_of written.now call) image.old }
 {
     match call {
@@ -289,5 +304,6 @@ pub fn copy_of(alloc: Global, bytes: &[u8]) -> Result<Vec<u8>, NoMemory>
     ensures same { IfOk result (λ copy. copy.items ≡ bytes.now) }
     ensures bytes { AreBytes bytes.now }
 {
+    bytes_fit(bytes);
     Ok(bytes.to_vec(alloc)?)
 }

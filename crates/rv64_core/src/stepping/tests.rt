@@ -1,4 +1,4 @@
-ghost use Rattle.rv64_core.specs.Flat.{flat_cells};
+ghost use Rattle.rv64_core.specs.Flat.{flat_cells, flat_private};
 
 use super::*;
 use crate::flat::Flat;
@@ -120,6 +120,9 @@ impl Space for Exhausted {
     ghost table = { λ _. tt };
 
     ghost landed = { λ _ _ _. tt };
+
+    ghost all_private = { λ s address. flat_private s.flat.rights.items s.flat.bytes.items
+        address };
 
     fn fetch(&self, pc: u64) -> Option<u32> {
         self.flat.fetch(pc)

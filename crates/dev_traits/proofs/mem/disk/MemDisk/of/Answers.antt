@@ -1,6 +1,5 @@
 use Rattle.std.proofs.Common.{◌≡◌, ◌∙◌, ◌*◌, ◌/◌, List, ℕ, [], length, take, subst, sym, ap, arith, refl, length-take}
-use Rattle.lists.specs.Bytes.{SameOutside, same_itself}
-use Rattle.dev_traits.specs.Disk.{AreBytes}
+use Rattle.lists.specs.Bytes.{SameOutside, same_itself, AreBytes}
 use Rattle.dev_traits.specs.Record.{Event, reading_of, settled_of, pending_of, ranges_of}
 use Rattle.dev_traits.proofs.mem.disk.MemDisk.of.Goals as goal
 

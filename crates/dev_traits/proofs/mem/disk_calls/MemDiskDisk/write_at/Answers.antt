@@ -1,6 +1,5 @@
 use Rattle.std.proofs.Common.{◌∙◌, ◌+◌, ◌≤◌, List, ℕ, Bool, not, length, subst, sym, ap, arith}
-use Rattle.lists.specs.Bytes.{SameOutside, length-put}
-use Rattle.dev_traits.specs.Disk.{AreBytes}
+use Rattle.lists.specs.Bytes.{SameOutside, length-put, AreBytes, are_bytes}
 use Rattle.dev_traits.specs.Lost.{lost_ranges}
 use Rattle.dev_traits.specs.Record.{NotesWrite, settled_of, pending_of, ranges_of}
 use Rattle.dev_traits.proofs.Stops.{noted_torn, free_if, put_bytes, wrote_events, wrote_reads, wrote_settled, wrote_apart}
@@ -27,7 +26,7 @@ invariant_of-self-2 c =
       size = events.0 ∙ self.size;
       start_whole = self.start_whole;
       whole = ap length is ∙ length-put self.bytes.items c.args.place written fits ∙ self.whole;
-      fits = subst AreBytes (sym is) (put_bytes self.bytes.items c.args.place written fits self.fits (λ i. omega (arith, c.type_inv.bytes i)));
+      fits = subst AreBytes (sym is) (put_bytes self.bytes.items c.args.place written fits self.fits (are_bytes written (λ i lt. omega (arith, c.type_inv.bytes i))));
       settled_fits = wrote_settled self.blocks c.args.place self.start.items self.bytes.items written self.calls new (lost_ranges self.lost) lost' notes free self.unlost fits self.settled_fits;
       reads = is ∙ wrote_reads self.blocks c.args.place self.start.items self.bytes.items written self.calls new (lost_ranges self.lost) lost' notes free self.unlost fits self.reads;
       apart = subst (λ (l : List ℕ). SameOutside (ranges_of (pending_of new.events)) (settled_of self.start.items new.events) l) (sym is)

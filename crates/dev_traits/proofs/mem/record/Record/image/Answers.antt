@@ -1,7 +1,7 @@
 use Rattle.std.proofs.Common.{◌≡◌, ◌++◌, ◌-◌, ◌≤◌, ℕ, List, [], length, take, drop, sym, ap, subst, ◌∙◌, arith}
 use Rattle.std.proofs.lemmas.List.{take_at, length-take-le}
 use Rattle.dev_traits.specs.Record.{RecordView, Event, events_onto, image_in, within_call, IsStopOf}
-use Rattle.dev_traits.specs.Disk.{AreBytes}
+use Rattle.lists.specs.Bytes.{AreBytes}
 use Rattle.dev_traits.specs.declared.mem.record.Call.{Call}
 use Rattle.dev_traits.specs.declared.mem.record.Fill.{Fill}
 use Rattle.dev_traits.proofs.RecordLemmas.{onto_first, length-onto}
