@@ -1,4 +1,4 @@
 pub mod Kept
 pub mod Laid
-mod Slots
+mod SlotLaws
 mod Walk

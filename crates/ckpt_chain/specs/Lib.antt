@@ -1,4 +1,4 @@
 pub mod Slot
 pub mod Chain
 pub mod Reads
-pub mod Gives
+pub mod Refusals

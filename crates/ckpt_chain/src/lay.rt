@@ -1,6 +1,6 @@
 ghost use Rattle.std.specs.Prelude.{◌≡◌, ◌<◌, ◌≤◌, ◌*◌, ◌+◌, ◌-◌, ◌/◌, ◌^◌, List, ℕ, Some, IfOk, length, take, drop};
 ghost use Rattle.std.specs.List.{AllByRecursion};
-ghost use Rattle.ckpt_chain.specs.Chain.{laid, meta_block, first_of, HasBlocks, stream_at};
+ghost use Rattle.ckpt_chain.specs.Chain.{laid, meta_block, metas_for, first_of, HasBlocks, stream_at};
 
 use lists::NoMemory;
 use std::alloc::{AllocError, Global};
@@ -93,7 +93,7 @@ pub fn laid_is_read()
     ensures { (image : List ℕ) (count epoch : ℕ) (bytes blocks : List ℕ)
         → count ≤ 2 ^ 20
         → 1 ≤ length bytes → length bytes ≤ 4088 * (count - 2)
-        → length blocks ≡ (length bytes + 4087) / 4088
+        → length blocks ≡ metas_for (length bytes)
         → AllByRecursion (λ b. (2 ≤ b) × (b < count)) blocks
         → HasBlocks image blocks (laid bytes blocks)
         → stream_at image count (record { epoch = epoch; first = first_of blocks; length = length bytes }) ≡ Some (bytes, blocks) }

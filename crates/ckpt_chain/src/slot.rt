@@ -1,8 +1,8 @@
 //! The two slots of a disk, each of which may be open at one checkpoint.
-ghost use Rattle.std.specs.Prelude.{◌≡◌, ◌≤◌, ◌+◌, ◌^◌, ℕ, List, length, Some, IfOk, OnErr};
+ghost use Rattle.std.specs.Prelude.{◌≡◌, ◌≤◌, ◌+◌, ◌^◌, ℕ, List, length, Some, IfOk, IfSome, OnErr};
 ghost use Rattle.dev_traits.specs.Counts.{Rose};
 ghost use Rattle.ckpt_chain.specs.Reads.{OnlyReads};
-ghost use Rattle.ckpt_chain.specs.Slot.{num_at, is_open as is_open_at, body_at, open_body, newer, newest};
+ghost use Rattle.ckpt_chain.specs.Slot.{num_at, is_open as is_open_at, body_at, open_body, newer, newest, gates_of};
 
 use crate::stream::read_block;
 use dev_traits::{Disk, Failed};
@@ -21,6 +21,15 @@ pub struct SlotBody {
     pub epoch: u64,
     pub first: u64,
     pub length: u64,
+}
+
+/// What the two slots of a disk say.
+#[derive(Clone, Copy)]
+pub struct Slots {
+    /// The newest open slot, with its body.
+    pub newest: Option<(Slot, SlotBody)>,
+    /// The gate bytes of slots A and B. A slot whose gate isn't 1 isn't open.
+    pub gates: [u8; 2],
 }
 
 /// The number in the eight bytes from a place on, the low byte first.
@@ -81,15 +90,22 @@ pub fn open_slot(a: Option<SlotBody>, b: Option<SlotBody>) -> Option<(Slot, Slot
     }
 }
 
-/// Reads both slots of a disk: the newest open one.
-pub fn newest_slot<D: Disk>(disk: &mut D) -> Result<Option<(Slot, SlotBody)>, Failed>
+/// Reads both slots of a disk.
+pub fn read_slots<D: Disk>(disk: &mut D) -> Result<Slots, Failed>
     requires least { 2 ≤ (D.view disk.old).blocks }
     requires most { (D.view disk.old).blocks ≤ 2 ^ 20 }
-    ensures found { (image : List ℕ) → (D.view disk.old).reading ≡ Some image → IfOk result (λ r. r ≡ newest image) }
+    ensures newest { (image : List ℕ) → (D.view disk.old).reading ≡ Some image
+        → IfOk result (λ s. s.newest ≡ newest image) }
+    ensures gates { (image : List ℕ) → (D.view disk.old).reading ≡ Some image
+        → IfOk result (λ s. s.gates ≡ gates_of image) }
+    ensures epoch { IfOk result (λ s. IfSome s.newest (λ x. 1 ≤ x.1.epoch)) }
     ensures disk { OnlyReads (D.view disk.old) (D.view disk.new) }
     ensures cause { OnErr result (Rose (D.view disk.old).faults (D.view disk.new).faults) }
 {
     let a = read_block(disk, 0)?;
     let b = read_block(disk, 1)?;
-    Ok(open_slot(read_slot(&a), read_slot(&b)))
+    Ok(Slots {
+        newest: open_slot(read_slot(&a), read_slot(&b)),
+        gates: [a[0], b[0]],
+    })
 }

@@ -2,7 +2,7 @@ ghost use Rattle.std.specs.Prelude.{◌≡◌, ◌≤◌, ◌<◌, ◌*◌, ◌^
 ghost use Rattle.dev_traits.specs.Counts.{Rose};
 ghost use Rattle.ckpt_chain.specs.Reads.{OnlyReads};
 ghost use Rattle.ckpt_chain.specs.Chain.{stream_at, whole_at, block, InDisk};
-ghost use Rattle.ckpt_chain.specs.Gives.{Gives, FaultRose};
+ghost use Rattle.ckpt_chain.specs.Refusals.{IsReadAs, FaultRose};
 ghost use Rattle.ckpt_chain.specs.declared.stream.StreamRefused.TheVariants.{NoMemory, DiskFault};
 
 use crate::slot::{SlotBody, u64_at};
@@ -61,7 +61,8 @@ impl From<Failed> for StreamRefused {
 pub fn read_block<D: Disk>(disk: &mut D, at: u64) -> Result<[u8; 4096], Failed>
     requires at { at < (D.view disk.old).blocks }
     requires count { (D.view disk.old).blocks ≤ 2 ^ 20 }
-    ensures bytes { (image : List ℕ) → (D.view disk.old).reading ≡ Some image → IfOk result (λ x. x ≡ block image at) }
+    ensures bytes { (image : List ℕ) → (D.view disk.old).reading ≡ Some image
+        → IfOk result (λ x. x ≡ block image at) }
     ensures disk { OnlyReads (D.view disk.old) (D.view disk.new) }
     ensures cause { OnErr result (Rose (D.view disk.old).faults (D.view disk.new).faults) }
 {
@@ -79,8 +80,10 @@ pub fn read_stream<D: Disk>(
 ) -> Result<Stream, StreamRefused>
     requires least { 16 ≤ (D.view disk.old).blocks }
     requires most { (D.view disk.old).blocks ≤ 2 ^ 20 }
-    ensures always { IfOk result (λ s. (1 ≤ length s.blocks) × InDisk (D.view disk.old).blocks s.blocks) }
-    ensures bytes { (image : List ℕ) → (D.view disk.old).reading ≡ Some image → Gives (λ s. (s.bytes, s.blocks)) result (stream_at image (D.view disk.old).blocks body) }
+    ensures always { IfOk result
+        (λ s. (1 ≤ length s.blocks) × InDisk (D.view disk.old).blocks s.blocks) }
+    ensures bytes { (image : List ℕ) → (D.view disk.old).reading ≡ Some image
+        → IsReadAs (λ s. (s.bytes, s.blocks)) result (stream_at image (D.view disk.old).blocks body) }
     ensures disk { OnlyReads (D.view disk.old) (D.view disk.new) }
     ensures cause { FaultRose (D.view disk.old).faults (D.view disk.new).faults result }
 {
@@ -105,8 +108,10 @@ fn walk<D: Disk>(
     first: u64,
 ) -> Result<Walked, StreamRefused>
     requires { (D.view disk.old).blocks ≤ 2 ^ 20 }
-    ensures always { IfOk result (λ s. (length s.blocks.items ≡ links) × InDisk (D.view disk.old).blocks s.blocks.items) }
-    ensures bytes { (image : List ℕ) → (D.view disk.old).reading ≡ Some image → Gives (λ s. (s.bytes.items, s.blocks.items)) result (whole_at image (D.view disk.old).blocks links first) }
+    ensures always { IfOk result
+        (λ s. (length s.blocks.items ≡ links) × InDisk (D.view disk.old).blocks s.blocks.items) }
+    ensures bytes { (image : List ℕ) → (D.view disk.old).reading ≡ Some image
+        → IsReadAs (λ s. (s.bytes.items, s.blocks.items)) result (whole_at image (D.view disk.old).blocks links first) }
     ensures disk { OnlyReads (D.view disk.old) (D.view disk.new) }
     ensures cause { FaultRose (D.view disk.old).faults (D.view disk.new).faults result }
 {

@@ -1,7 +1,5 @@
 pub mod Stages
 mod Told
-pub mod Slots
-pub mod Images
 pub mod Parts
 pub mod During
-pub mod Finished
+pub mod TellingLaws

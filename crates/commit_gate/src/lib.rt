@@ -8,12 +8,16 @@
 //! the slots; above, whatever writes a checkpoint.
 #![tactic(auto)]
 
+mod laws;
 mod states;
 #[cfg(test)]
 mod tests;
 mod whole;
 mod written;
 
+pub use laws::{
+    finished_opens_the_target, steps_are_unfinished_or_finished, unfinished_keeps_the_other_slot,
+};
 pub use states::{BadDisk, Bodied, Closed, DiskFault, Laid, Opened, start};
 pub use whole::{Block, are_placed, commit};
 pub use written::Written;

@@ -1,11 +1,11 @@
-ghost use Rattle.std.specs.Prelude.{◌≡◌, ◌<◌, ◌≤◌, ◌+◌, ◌*◌, ◌↔◌, List, ℕ, [], ◌∷◌, length, slice_index, IsTrue, IsErr, true, false, IfOk, IfErr, OnOk, OnErr};
+ghost use Rattle.std.specs.Prelude.{◌≡◌, ◌<◌, ◌≤◌, ◌+◌, ◌*◌, ◌↔◌, List, ℕ, [], ◌∷◌, length, slice_index, IsTrue, IsErr, is_err, false, ◌||◌, IfOk, IfErr, OnOk, OnErr};
 ghost use Rattle.std.specs.Option.{ForSome};
 ghost use Rattle.dev_traits.specs.Commits.{wrote, synced, unchanged};
-ghost use Rattle.dev_traits.specs.Counts.{HasCause, Rose, one_more};
+ghost use Rattle.dev_traits.specs.Counts.{one_more_if, HasCause, Rose, one_more};
 ghost use Rattle.dev_traits.specs.Disk.{OnlyReading, Puts, CommitsBy};
 ghost use Rattle.dev_traits.specs.Since.{LeavesOnly};
 ghost use Rattle.ckpt_chain.specs.Slot.{gate_place, body_bytes};
-ghost use Rattle.commit_gate.specs.Commit.{IsBeforeLaid, IsTornAt, Begins, count_with, put_down, FailsToPut};
+ghost use Rattle.commit_gate.specs.Commit.{IsBeforeLaid, IsTornAt, Begins, put_down, FailsToPut};
 
 use crate::written::Written;
 use ckpt_chain::{Slot, SlotBody};
@@ -25,40 +25,41 @@ pub struct BadDisk<D> {
 /// The target's gate is closed, and blocks are written. `start` is the disk as `start` was given it,
 /// `written` the blocks so far, those whose write failed among them.
 pub struct Closed<D: Disk> {
-    pub disk: D,
-    pub start: Snapshot<D>,
-    pub target: Slot,
+    pub(crate) disk: D,
+    pub(crate) start: Snapshot<D>,
+    pub(crate) target: Slot,
     /// Whether the target's gate read 1, so that byte 0 was written to it.
-    pub close: bool,
-    pub written: Written,
-    /// Whether a write of a block failed.
-    pub failed: bool,
+    pub(crate) close: bool,
+    pub(crate) written: Written,
+    /// Whether a write of a block failed: `write` alone sets it, and `laid` asks for it.
+    pub(crate) failed: bool,
     pub ghost sized: { (16 ≤ (D.view disk).blocks) × ((D.view disk).blocks ≤ 1048576) },
     pub ghost later: { (D.view start.value).moment ≤ (D.view disk).moment },
-    pub ghost since: { (image : List ℕ) → (D.view disk).left (D.view start.value).moment image → IsBeforeLaid (D.view start.value).reading target close written image },
+    pub ghost since: { (image : List ℕ) → (D.view disk).left (D.view start.value).moment image
+        → IsBeforeLaid (D.view start.value).reading target close written image },
 }
 
 /// The blocks are on the disk: a stop leaves its reading. By the clauses of `start` and of each `write`,
 /// which compose, the blocks then read as written, the target's gate reads 0 where it was closed, and all
 /// else reads as at `start`.
 pub struct Laid<D: Disk> {
-    pub disk: D,
-    pub target: Slot,
+    pub(crate) disk: D,
+    pub(crate) target: Slot,
     pub ghost sized: { (16 ≤ (D.view disk).blocks) × ((D.view disk).blocks ≤ 1048576) },
     pub ghost only: { OnlyReading (D.view disk) },
 }
 
 /// The slot's body is on the disk: a stop leaves its reading.
 pub struct Bodied<D: Disk> {
-    pub disk: D,
-    pub target: Slot,
+    pub(crate) disk: D,
+    pub(crate) target: Slot,
     pub ghost sized: { (16 ≤ (D.view disk).blocks) × ((D.view disk).blocks ≤ 1048576) },
     pub ghost only: { OnlyReading (D.view disk) },
 }
 
 /// The gate is open on the disk: a stop leaves its reading.
 pub struct Opened<D: Disk> {
-    pub disk: D,
+    pub(crate) disk: D,
     pub ghost only: { OnlyReading (D.view disk) },
 }
 
@@ -76,9 +77,10 @@ fn close_gate<D: Disk>(disk: &mut D, target: Slot, close: bool) -> Result<(), Fa
     requires only { OnlyReading (D.view disk.old) }
     ensures closed { OnOk result (Begins target close (D.view disk.old) (D.view disk.new)) }
     ensures blocks { (D.view disk.new).blocks ≡ (D.view disk.old).blocks }
-    ensures images { LeavesOnly (D.view disk.old) (D.view disk.new) (IsBeforeLaid (D.view disk.old).reading target close []) }
+    ensures images { LeavesOnly (D.view disk.old) (D.view disk.new)
+        (IsBeforeLaid (D.view disk.old).reading target close []) }
     ensures commits { CommitsBy unchanged (D.view disk.old) (D.view disk.new) }
-    ensures writes { (D.view disk.new).writes ≡ count_with close (D.view disk.old).writes }
+    ensures writes { (D.view disk.new).writes ≡ one_more_if close (D.view disk.old).writes }
     ensures faults { HasCause (D.view disk.old).faults (D.view disk.new).faults (IsErr result) }
 {
     if close {
@@ -92,20 +94,32 @@ fn close_gate<D: Disk>(disk: &mut D, target: Slot, close: bool) -> Result<(), Fa
 pub fn start<D: Disk>(disk: D, target: Slot, close: bool) -> Result<Closed<D>, BadDisk<D>>
     requires sized { (16 ≤ (D.view disk).blocks) × ((D.view disk).blocks ≤ 1048576) }
     requires only { OnlyReading (D.view disk) }
-    requires gate { ForSome (D.view disk).reading (λ r. IsTrue close ↔ (slice_index r (gate_place target) ≡ 1)) }
+    requires gate { ForSome (D.view disk).reading
+        (λ r. IsTrue close ↔ (slice_index r (gate_place target) ≡ 1)) }
 
-    ensures begun { IfOk result (λ closed. (closed.start.value ≡ disk) × (closed.target ≡ target) × (closed.close ≡ close) × (closed.written ≡ []) × (closed.failed ≡ false)) }
-    ensures closed { IfOk result (λ closed. Begins target close (D.view disk) (D.view closed.disk)) }
+    ensures begun { IfOk result
+        (λ closed. (closed.start.value ≡ disk) × (closed.target ≡ target) × (closed.close ≡ close)
+        × (closed.written ≡ []) × (closed.failed ≡ false)) }
+    ensures closed { IfOk result
+        (λ closed. Begins target close (D.view disk) (D.view closed.disk)) }
     ensures blocks { IfOk result (λ closed. (D.view closed.disk).blocks ≡ (D.view disk).blocks) }
     ensures blocks_err { IfErr result (λ bad. (D.view bad.disk).blocks ≡ (D.view disk).blocks) }
 
-    ensures images { IfOk result (λ closed. LeavesOnly (D.view disk) (D.view closed.disk) (IsBeforeLaid (D.view disk).reading target close [])) }
-    ensures images_err { IfErr result (λ bad. LeavesOnly (D.view disk) (D.view bad.disk) (IsBeforeLaid (D.view disk).reading target close [])) }
+    ensures images { IfOk result
+        (λ closed. LeavesOnly (D.view disk) (D.view closed.disk)
+        (IsBeforeLaid (D.view disk).reading target close [])) }
+    ensures images_err { IfErr result
+        (λ bad. LeavesOnly (D.view disk) (D.view bad.disk)
+        (IsBeforeLaid (D.view disk).reading target close [])) }
 
-    ensures commits { IfOk result (λ closed. CommitsBy unchanged (D.view disk) (D.view closed.disk)) }
-    ensures commits_err { IfErr result (λ bad. CommitsBy unchanged (D.view disk) (D.view bad.disk)) }
-    ensures writes { IfOk result (λ closed. (D.view closed.disk).writes ≡ count_with close (D.view disk).writes) }
-    ensures writes_err { IfErr result (λ bad. (D.view bad.disk).writes ≡ count_with close (D.view disk).writes) }
+    ensures commits { IfOk result
+        (λ closed. CommitsBy unchanged (D.view disk) (D.view closed.disk)) }
+    ensures commits_err { IfErr result
+        (λ bad. CommitsBy unchanged (D.view disk) (D.view bad.disk)) }
+    ensures writes { IfOk result
+        (λ closed. (D.view closed.disk).writes ≡ one_more_if close (D.view disk).writes) }
+    ensures writes_err { IfErr result
+        (λ bad. (D.view bad.disk).writes ≡ one_more_if close (D.view disk).writes) }
     ensures later { IfOk result (λ closed. (D.view disk).faults ≤ (D.view closed.disk).faults) }
     ensures cause { IfErr result (λ bad. Rose (D.view disk).faults (D.view bad.disk).faults) }
 {
@@ -131,17 +145,25 @@ impl<D: Disk> Closed<D> {
         requires within { (2 ≤ block) × (block < (D.view self.old.disk).blocks) }
 
         ensures written { self.new.written ≡ block ∷ self.old.written }
-        ensures same { (self.new.start ≡ self.old.start) × (self.new.target ≡ self.old.target) × (self.new.close ≡ self.old.close) }
-        ensures ok { OnOk result ((self.new.failed ≡ self.old.failed) × Puts (4096 * block) bytes.now (D.view self.old.disk) (D.view self.new.disk)) }
-        ensures failed { OnErr result (self.new.failed ≡ true) }
+        ensures same { (self.new.start ≡ self.old.start) × (self.new.target ≡ self.old.target)
+            × (self.new.close ≡ self.old.close) }
+        ensures ok { OnOk result
+            (Puts (4096 * block) bytes.now (D.view self.old.disk) (D.view self.new.disk)) }
+        ensures failed { self.new.failed ≡ self.old.failed || is_err result }
         ensures blocks { (D.view self.new.disk).blocks ≡ (D.view self.old.disk).blocks }
 
-        ensures images { LeavesOnly (D.view self.old.disk) (D.view self.new.disk) (IsBeforeLaid (D.view self.old.start.value).reading self.old.target self.old.close (block ∷ self.old.written)) }
+        ensures images { LeavesOnly (D.view self.old.disk) (D.view self.new.disk)
+            (IsBeforeLaid (D.view self.old.start.value).reading self.old.target self.old.close
+            (block ∷ self.old.written)) }
 
-        ensures commits { OnOk result (CommitsBy (wrote (4096 * block) bytes.now) (D.view self.old.disk) (D.view self.new.disk)) }
-        ensures commits_err { OnErr result (CommitsBy unchanged (D.view self.old.disk) (D.view self.new.disk)) }
+        ensures commits { OnOk result
+            (CommitsBy (wrote (4096 * block) bytes.now) (D.view self.old.disk)
+            (D.view self.new.disk)) }
+        ensures commits_err { OnErr result
+            (CommitsBy unchanged (D.view self.old.disk) (D.view self.new.disk)) }
         ensures writes { (D.view self.new.disk).writes ≡ one_more (D.view self.old.disk).writes }
-        ensures faults { HasCause (D.view self.old.disk).faults (D.view self.new.disk).faults (IsErr result) }
+        ensures faults { HasCause (D.view self.old.disk).faults (D.view self.new.disk).faults
+            (IsErr result) }
     {
         self.written.add(block);
         if self.disk.write_at(4096 * block, bytes).is_err() {
@@ -155,18 +177,32 @@ impl<D: Disk> Closed<D> {
     pub fn laid(self) -> Result<Laid<D>, BadDisk<D>>
         requires { self.failed ≡ false }
 
-        ensures same { IfOk result (λ laid. (laid.target ≡ self.target) × ((D.view laid.disk).reading ≡ (D.view self.disk).reading) × ((D.view laid.disk).blocks ≡ (D.view self.disk).blocks)) }
-        ensures blocks_err { IfErr result (λ bad. (D.view bad.disk).blocks ≡ (D.view self.disk).blocks) }
+        ensures same { IfOk result
+            (λ laid. (laid.target ≡ self.target)
+            × ((D.view laid.disk).reading ≡ (D.view self.disk).reading)
+            × ((D.view laid.disk).blocks ≡ (D.view self.disk).blocks)) }
+        ensures blocks_err { IfErr result
+            (λ bad. (D.view bad.disk).blocks ≡ (D.view self.disk).blocks) }
 
-        ensures images { IfOk result (λ laid. LeavesOnly (D.view self.disk) (D.view laid.disk) (IsBeforeLaid (D.view self.start.value).reading self.target self.close self.written)) }
-        ensures images_err { IfErr result (λ bad. LeavesOnly (D.view self.disk) (D.view bad.disk) (IsBeforeLaid (D.view self.start.value).reading self.target self.close self.written)) }
+        ensures images { IfOk result
+            (λ laid. LeavesOnly (D.view self.disk) (D.view laid.disk)
+            (IsBeforeLaid (D.view self.start.value).reading self.target self.close self.written)) }
+        ensures images_err { IfErr result
+            (λ bad. LeavesOnly (D.view self.disk) (D.view bad.disk)
+            (IsBeforeLaid (D.view self.start.value).reading self.target self.close self.written)) }
 
-        ensures commits { IfOk result (λ laid. CommitsBy synced (D.view self.disk) (D.view laid.disk)) }
-        ensures commits_err { IfErr result (λ bad. CommitsBy unchanged (D.view self.disk) (D.view bad.disk)) }
-        ensures writes { IfOk result (λ laid. (D.view laid.disk).writes ≡ (D.view self.disk).writes) }
-        ensures writes_err { IfErr result (λ bad. (D.view bad.disk).writes ≡ (D.view self.disk).writes) }
-        ensures later { IfOk result (λ laid. (D.view self.disk).faults ≤ (D.view laid.disk).faults) }
-        ensures cause { IfErr result (λ bad. Rose (D.view self.disk).faults (D.view bad.disk).faults) }
+        ensures commits { IfOk result
+            (λ laid. CommitsBy synced (D.view self.disk) (D.view laid.disk)) }
+        ensures commits_err { IfErr result
+            (λ bad. CommitsBy unchanged (D.view self.disk) (D.view bad.disk)) }
+        ensures writes { IfOk result
+            (λ laid. (D.view laid.disk).writes ≡ (D.view self.disk).writes) }
+        ensures writes_err { IfErr result
+            (λ bad. (D.view bad.disk).writes ≡ (D.view self.disk).writes) }
+        ensures later { IfOk result
+            (λ laid. (D.view self.disk).faults ≤ (D.view laid.disk).faults) }
+        ensures cause { IfErr result
+            (λ bad. Rose (D.view self.disk).faults (D.view bad.disk).faults) }
     {
         let Closed {
             mut disk,
@@ -206,9 +242,12 @@ fn put_slot<D: Disk>(disk: &mut D, place: u64, bytes: &[u8]) -> Result<(), Faile
     ensures put { OnOk result (Puts place bytes.now (D.view disk.old) (D.view disk.new)) }
     ensures only { OnOk result (OnlyReading (D.view disk.new)) }
     ensures blocks { (D.view disk.new).blocks ≡ (D.view disk.old).blocks }
-    ensures images { LeavesOnly (D.view disk.old) (D.view disk.new) (IsTornAt place (length bytes.now) (D.view disk.old).reading) }
-    ensures commits { OnOk result (CommitsBy (put_down place bytes.now) (D.view disk.old) (D.view disk.new)) }
-    ensures commits_err { OnErr result (FailsToPut place bytes.now (D.view disk.old) (D.view disk.new)) }
+    ensures images { LeavesOnly (D.view disk.old) (D.view disk.new)
+        (IsTornAt place (length bytes.now) (D.view disk.old).reading) }
+    ensures commits { OnOk result
+        (CommitsBy (put_down place bytes.now) (D.view disk.old) (D.view disk.new)) }
+    ensures commits_err { OnErr result
+        (FailsToPut place bytes.now (D.view disk.old) (D.view disk.new)) }
     ensures writes { (D.view disk.new).writes ≡ one_more (D.view disk.old).writes }
     ensures faults { HasCause (D.view disk.old).faults (D.view disk.new).faults (IsErr result) }
 {
@@ -219,19 +258,36 @@ fn put_slot<D: Disk>(disk: &mut D, place: u64, bytes: &[u8]) -> Result<(), Faile
 impl<D: Disk> Laid<D> {
     /// Writes the slot's body, bytes 8 to 39 of its block, and syncs.
     pub fn body(self, body: SlotBody) -> Result<Bodied<D>, BadDisk<D>>
-        ensures same { IfOk result (λ bodied. (bodied.target ≡ self.target) × ((D.view bodied.disk).blocks ≡ (D.view self.disk).blocks)) }
-        ensures blocks_err { IfErr result (λ bad. (D.view bad.disk).blocks ≡ (D.view self.disk).blocks) }
-        ensures put { IfOk result (λ bodied. Puts (gate_place self.target + 8) (body_bytes body) (D.view self.disk) (D.view bodied.disk)) }
+        ensures same { IfOk result
+            (λ bodied. (bodied.target ≡ self.target)
+            × ((D.view bodied.disk).blocks ≡ (D.view self.disk).blocks)) }
+        ensures blocks_err { IfErr result
+            (λ bad. (D.view bad.disk).blocks ≡ (D.view self.disk).blocks) }
+        ensures put { IfOk result
+            (λ bodied. Puts (gate_place self.target + 8) (body_bytes body) (D.view self.disk)
+            (D.view bodied.disk)) }
 
-        ensures images { IfOk result (λ bodied. LeavesOnly (D.view self.disk) (D.view bodied.disk) (IsTornAt (gate_place self.target + 8) 32 (D.view self.disk).reading)) }
-        ensures images_err { IfErr result (λ bad. LeavesOnly (D.view self.disk) (D.view bad.disk) (IsTornAt (gate_place self.target + 8) 32 (D.view self.disk).reading)) }
+        ensures images { IfOk result
+            (λ bodied. LeavesOnly (D.view self.disk) (D.view bodied.disk)
+            (IsTornAt (gate_place self.target + 8) 32 (D.view self.disk).reading)) }
+        ensures images_err { IfErr result
+            (λ bad. LeavesOnly (D.view self.disk) (D.view bad.disk)
+            (IsTornAt (gate_place self.target + 8) 32 (D.view self.disk).reading)) }
 
-        ensures commits { IfOk result (λ bodied. CommitsBy (put_down (gate_place self.target + 8) (body_bytes body)) (D.view self.disk) (D.view bodied.disk)) }
-        ensures commits_err { IfErr result (λ bad. FailsToPut (gate_place self.target + 8) (body_bytes body) (D.view self.disk) (D.view bad.disk)) }
-        ensures writes { IfOk result (λ bodied. (D.view bodied.disk).writes ≡ one_more (D.view self.disk).writes) }
-        ensures writes_err { IfErr result (λ bad. (D.view bad.disk).writes ≡ one_more (D.view self.disk).writes) }
-        ensures later { IfOk result (λ bodied. (D.view self.disk).faults ≤ (D.view bodied.disk).faults) }
-        ensures cause { IfErr result (λ bad. Rose (D.view self.disk).faults (D.view bad.disk).faults) }
+        ensures commits { IfOk result
+            (λ bodied. CommitsBy (put_down (gate_place self.target + 8) (body_bytes body))
+            (D.view self.disk) (D.view bodied.disk)) }
+        ensures commits_err { IfErr result
+            (λ bad. FailsToPut (gate_place self.target + 8) (body_bytes body) (D.view self.disk)
+            (D.view bad.disk)) }
+        ensures writes { IfOk result
+            (λ bodied. (D.view bodied.disk).writes ≡ one_more (D.view self.disk).writes) }
+        ensures writes_err { IfErr result
+            (λ bad. (D.view bad.disk).writes ≡ one_more (D.view self.disk).writes) }
+        ensures later { IfOk result
+            (λ bodied. (D.view self.disk).faults ≤ (D.view bodied.disk).faults) }
+        ensures cause { IfErr result
+            (λ bad. Rose (D.view self.disk).faults (D.view bad.disk).faults) }
     {
         let Laid { mut disk, target } = self;
         let bytes = bytes_of(body);
@@ -245,19 +301,35 @@ impl<D: Disk> Laid<D> {
 impl<D: Disk> Bodied<D> {
     /// Opens the gate: writes byte 1 to it, and syncs.
     pub fn gate(self) -> Result<Opened<D>, BadDisk<D>>
-        ensures same { IfOk result (λ opened. (D.view opened.disk).blocks ≡ (D.view self.disk).blocks) }
-        ensures blocks_err { IfErr result (λ bad. (D.view bad.disk).blocks ≡ (D.view self.disk).blocks) }
-        ensures put { IfOk result (λ opened. Puts (gate_place self.target) (1 ∷ []) (D.view self.disk) (D.view opened.disk)) }
+        ensures same { IfOk result
+            (λ opened. (D.view opened.disk).blocks ≡ (D.view self.disk).blocks) }
+        ensures blocks_err { IfErr result
+            (λ bad. (D.view bad.disk).blocks ≡ (D.view self.disk).blocks) }
+        ensures put { IfOk result
+            (λ opened. Puts (gate_place self.target) (1 ∷ []) (D.view self.disk)
+            (D.view opened.disk)) }
 
-        ensures images { IfOk result (λ opened. LeavesOnly (D.view self.disk) (D.view opened.disk) (IsTornAt (gate_place self.target) 1 (D.view self.disk).reading)) }
-        ensures images_err { IfErr result (λ bad. LeavesOnly (D.view self.disk) (D.view bad.disk) (IsTornAt (gate_place self.target) 1 (D.view self.disk).reading)) }
+        ensures images { IfOk result
+            (λ opened. LeavesOnly (D.view self.disk) (D.view opened.disk)
+            (IsTornAt (gate_place self.target) 1 (D.view self.disk).reading)) }
+        ensures images_err { IfErr result
+            (λ bad. LeavesOnly (D.view self.disk) (D.view bad.disk)
+            (IsTornAt (gate_place self.target) 1 (D.view self.disk).reading)) }
 
-        ensures commits { IfOk result (λ opened. CommitsBy (put_down (gate_place self.target) (1 ∷ [])) (D.view self.disk) (D.view opened.disk)) }
-        ensures commits_err { IfErr result (λ bad. FailsToPut (gate_place self.target) (1 ∷ []) (D.view self.disk) (D.view bad.disk)) }
-        ensures writes { IfOk result (λ opened. (D.view opened.disk).writes ≡ one_more (D.view self.disk).writes) }
-        ensures writes_err { IfErr result (λ bad. (D.view bad.disk).writes ≡ one_more (D.view self.disk).writes) }
-        ensures later { IfOk result (λ opened. (D.view self.disk).faults ≤ (D.view opened.disk).faults) }
-        ensures cause { IfErr result (λ bad. Rose (D.view self.disk).faults (D.view bad.disk).faults) }
+        ensures commits { IfOk result
+            (λ opened. CommitsBy (put_down (gate_place self.target) (1 ∷ [])) (D.view self.disk)
+            (D.view opened.disk)) }
+        ensures commits_err { IfErr result
+            (λ bad. FailsToPut (gate_place self.target) (1 ∷ []) (D.view self.disk)
+            (D.view bad.disk)) }
+        ensures writes { IfOk result
+            (λ opened. (D.view opened.disk).writes ≡ one_more (D.view self.disk).writes) }
+        ensures writes_err { IfErr result
+            (λ bad. (D.view bad.disk).writes ≡ one_more (D.view self.disk).writes) }
+        ensures later { IfOk result
+            (λ opened. (D.view self.disk).faults ≤ (D.view opened.disk).faults) }
+        ensures cause { IfErr result
+            (λ bad. Rose (D.view self.disk).faults (D.view bad.disk).faults) }
     {
         let Bodied { mut disk, target } = self;
         if put_slot(&mut disk, gate_at(target), &[1]).is_err() {

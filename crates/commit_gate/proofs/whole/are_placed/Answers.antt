@@ -1,14 +1,14 @@
 use Rattle.std.proofs.Common.{List, refl, subst}
 use Rattle.std.proofs.lemmas.List.{take_all}
 use Rattle.std.specs.List.{AllByRecursion}
-use Rattle.commit_gate.specs.Whole.{IsPlaced}
+use Rattle.commit_gate.specs.Whole.{IsDataBlock}
 use Rattle.commit_gate.specs.declared.whole.Block.{Block}
 use Rattle.commit_gate.proofs.Parts.{placed_more}
 use Rattle.commit_gate.proofs.whole.are_placed.Goals as goal
 
 pub returns : goal.returns
 returns c = (
-  λ yes. subst (λ (l : List Block). AllByRecursion (IsPlaced c.args.count) l) (take_all c.loop-block.block-index c.args.blocks.now c.loop-block-test.false) c.loop-block.invariant,
+  λ yes. subst (λ (l : List Block). AllByRecursion (IsDataBlock c.args.count) l) (take_all c.loop-block.block-index c.args.blocks.now c.loop-block-test.false) c.loop-block.invariant,
   λ all. refl,
 )
 

@@ -1,17 +1,18 @@
 use Rattle.std.proofs.Common.{◌≡◌, ◌+◌, ◌≤◌, ℕ, Bool, List, [], refl, sym, ap, ◌∙◌, subst, arith, length}
 use Rattle.dev_traits.specs.Commits.{nothing_written, synced, unchanged}
+use Rattle.dev_traits.specs.Counts.{one_more_if}
 use Rattle.dev_traits.specs.Disk.{DiskView, CommitsBy}
 use Rattle.dev_traits.specs.Since.{LeavesOnly, weaker}
 use Rattle.ckpt_chain.specs.declared.slot.Slot.{Slot}
-use Rattle.commit_gate.specs.Commit.{IsBeforeLaid, count_with}
-use Rattle.commit_gate.specs.Whole.{numbers, with_blocks, closing}
-use Rattle.commit_gate.specs.Parts.{Goes, Fails, gathered, stays, begun, laid_on}
+use Rattle.commit_gate.specs.Commit.{IsBeforeLaid}
+use Rattle.commit_gate.specs.Whole.{numbers, with_blocks, begun, laid_on, closing}
+use Rattle.commit_gate.specs.Parts.{Goes, HasFailed, gathered, stays}
 use Rattle.commit_gate.specs.declared.whole.Block.{Block}
 use Rattle.commit_gate.proofs.Parts.{goes_goes, goes_fails, goes_weaker, fails_weaker, told_by, silent_by, quiet, quiet_silent, ended_of, before_at, begun_reads, read_then, close_calls, no_call, on_ok_at, on_err_at}
 use Rattle.commit_gate.proofs.whole.fill.Goals as goal
 
 -- the commit has begun
-begins : (target : Slot) (close : Bool) (blocks : List Block) (u v : DiskView) → v.blocks ≡ u.blocks → LeavesOnly u v (IsBeforeLaid u.reading target close []) → v.writes ≡ count_with close u.writes → u.faults ≤ v.faults → CommitsBy unchanged u v
+begins : (target : Slot) (close : Bool) (blocks : List Block) (u v : DiskView) → v.blocks ≡ u.blocks → LeavesOnly u v (IsBeforeLaid u.reading target close []) → v.writes ≡ one_more_if close u.writes → u.faults ≤ v.faults → CommitsBy unchanged u v
     → Goes (IsBeforeLaid u.reading target close (numbers blocks)) (closing close) nothing_written stays nothing_written u v
 begins target close blocks u v size images writes later commits = record {
   blocks = size;
@@ -64,7 +65,7 @@ returns-then-is_err-clause-fails g c =
     let first = begins c.args.target c.args.close all u v e.blocks e.images e.writes e.later e.commits in
     let wider = before_at s.reading u.reading closed.target c.args.target closed.close c.args.close (numbers all) all (ap (λ d. (g.D.Disk.view d).reading) e.begun.0) e.begun.1 e.begun.2 (λ i out. out) in
     let second = fails_weaker (IsBeforeLaid s.reading closed.target closed.close (numbers all)) P wider (length all) nothing_written v w (length all) (omega arith) (on_err_at c.lay.result c.if-is_err.ensures.value c.lay.ensures.fails) in
-    subst (λ d. Fails P (closing c.args.close + length all) nothing_written u (g.D.Disk.view d)) (sym c.give_up.ensures)
+    subst (λ d. HasFailed P (closing c.args.close + length all) nothing_written u (g.D.Disk.view d)) (sym c.give_up.ensures)
     (goes_fails P (closing c.args.close) (length all) nothing_written nothing_written u v w first second)
 
 pub returns-in-Err-laid-clause-fails : goal.returns-in-Err-laid-clause-fails

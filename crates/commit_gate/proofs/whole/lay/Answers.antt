@@ -8,7 +8,7 @@ use Rattle.commit_gate.specs.Commit.{IsBeforeLaid}
 use Rattle.commit_gate.specs.Whole.{numbers, with_blocks}
 use Rattle.commit_gate.specs.Parts.{Goes, Within, gathered, stays}
 use Rattle.commit_gate.specs.declared.whole.Block.{Block}
-use Rattle.commit_gate.proofs.Parts.{goes_goes, goes_fails, fails_weaker, told_by, silent_by, quiet, quiet_silent, ended_of, block_gathered, with_blocks-more, read_same, read_then, no_call, one_call, placed_at, within_more, before_at, on_ok_at, on_err_at}
+use Rattle.commit_gate.proofs.Parts.{goes_goes, goes_fails, fails_weaker, told_by, silent_by, quiet, quiet_silent, ended_of, block_gathered, with_blocks-more, read_same, read_then, no_call, one_call, placed_at, within_more, before_at, on_ok_at, on_err_at, or_false}
 use Rattle.commit_gate.proofs.whole.lay.Goals as goal
 
 pub loop-block-init : goal.loop-block-init
@@ -54,14 +54,14 @@ loop-block-preserved g c =
     let wider = before_at start s closed.target first.target closed.close first.close (b.number ∷ closed.written) all (ap (λ x. (g.D.Disk.view x.value).reading) inv.start) inv.target inv.close within in
     let placed = placed_at u.blocks all i b c.requires.placed c.loop-block-test.true c.block-item.is in
     let ok = on_ok_at c.write.result c.if-is_err.ensures.value c.write.ensures.ok in
-    let puts = subst (λ (l : List ℕ). Puts (4096 * b.number) l v w) c.as_slice.ensures ok.1 in
+    let puts = subst (λ (l : List ℕ). Puts (4096 * b.number) l v w) c.as_slice.ensures ok in
     let by = subst (λ (l : List ℕ). CommitsBy (wrote (4096 * b.number) l) v w) c.as_slice.ensures (on_ok_at c.write.result c.if-is_err.ensures.value c.write.ensures.commits) in
     let more : take (i + 1) all ≡ take i all ++ b ∷ [] = take_more all i b c.loop-block-test.true ∙ ap (λ (x : Block). take i all ++ x ∷ []) (sym c.block-item.is) in
     record {
       start = c.write.ensures.same.0 ∙ inv.start;
       target = c.write.ensures.same.1 ∙ inv.target;
       close = c.write.ensures.same.2 ∙ inv.close;
-      works = ok.0 ∙ inv.works;
+      works = c.write.ensures.failed ∙ or_false closed.failed _ c.if-is_err.ensures.value ∙ inv.works;
       within = within_more all closed.written c.write.new.self.written i b c.loop-block-test.true c.block-item.is c.write.ensures.written inv.within;
       laid = read_then (with_blocks (take i all)) (λ r. put r (4096 * b.number) b.bytes) (with_blocks (take (i + 1) all)) u.reading v.reading w.reading inv.laid puts
           (λ r is. sym (ap (λ (l : List Block). with_blocks l r) more ∙ with_blocks-more (take i all) b r));

@@ -9,13 +9,13 @@ use Rattle.ckpt_chain.specs.declared.slot.Slot.{Slot}
 use Rattle.ckpt_chain.specs.declared.slot.SlotBody.{SlotBody}
 use Rattle.commit_gate.specs.Commit.{IsTornAt, put_down}
 use Rattle.commit_gate.specs.Whole.{finished}
-use Rattle.commit_gate.specs.Parts.{IsOpening, Goes, gathered, whole_commit, stays}
+use Rattle.commit_gate.specs.Parts.{IsSlotOpening, Goes, GatesLast, gathered, whole_commit, stays}
 use Rattle.commit_gate.specs.declared.whole.Block.{Block}
 use Rattle.commit_gate.proofs.Parts.{goes_goes, goes_fails, told_by, silent_by, failed_told, failed_silent, body_gathered, gate_gathered, with_body, read_then, one_call}
 use Rattle.commit_gate.proofs.whole.open_gate.Goals as goal
 
 -- a torn gate over the body
-over : (t s : Slot) (body : SlotBody) (u v : DiskView) → t ≡ s → Puts (gate_place s + 8) (body_bytes body) u v → (image : List ℕ) → IsTornAt (gate_place t) 1 v.reading image → IsOpening s body u.reading image
+over : (t s : Slot) (body : SlotBody) (u v : DiskView) → t ≡ s → Puts (gate_place s + 8) (body_bytes body) u v → (image : List ℕ) → IsTornAt (gate_place t) 1 v.reading image → IsSlotOpening s body u.reading image
 over t s body u v same puts image torn =
     inr (λ r is. subst (λ (x : Slot). SameOutside ((gate_place x, 1) ∷ []) r image) same (torn r (puts ∙ is)))
 
@@ -25,7 +25,7 @@ returns-in-Err-clause-fails g c held =
     let u = g.D.Disk.view c.args.laid.disk in
     let w = g.D.Disk.view c.in-Err.bad.disk in
     let e = c.in-Err.ensures in
-    let P = IsOpening t c.args.body u.reading in
+    let P = IsSlotOpening t c.args.body u.reading in
     record {
       blocks = e.blocks_err;
       images = weaker u w (IsTornAt (gate_place t + 8) 32 u.reading) P (λ image torn. inl torn) e.images_err;
@@ -37,10 +37,10 @@ returns-in-Err-clause-fails g c held =
 
 -- the body is down
 body_down : (t : Slot) (body : SlotBody) (held : List Block) (u v : DiskView) → v.blocks ≡ u.blocks → LeavesOnly u v (IsTornAt (gate_place t + 8) 32 u.reading) → v.writes ≡ one_more u.writes → u.faults ≤ v.faults
-    → CommitsBy (put_down (gate_place t + 8) (body_bytes body)) u v → Goes (IsOpening t body u.reading) 1 (gathered held) stays (with_body held body) u v
+    → CommitsBy (put_down (gate_place t + 8) (body_bytes body)) u v → Goes (IsSlotOpening t body u.reading) 1 (gathered held) stays (with_body held body) u v
 body_down t body held u v blocks images writes later commits = record {
   blocks = blocks;
-  images = weaker u v (IsTornAt (gate_place t + 8) 32 u.reading) (IsOpening t body u.reading) (λ image torn. inl torn) images;
+  images = weaker u v (IsTornAt (gate_place t + 8) 32 u.reading) (IsSlotOpening t body u.reading) (λ image torn. inl torn) images;
   writes = writes ∙ one_call u.writes;
   faults = later;
   told = λ l. told_by (put_down (gate_place t + 8) (body_bytes body)) u v commits l l (gathered held) (with_body held body) (body_gathered t held body l) refl;
@@ -57,7 +57,7 @@ returns-in-Err-gate-clause-fails g c held =
     let w = g.D.Disk.view c.in-Err-gate.bad.disk in
     let d = c.in-Ok.ensures in
     let e = c.in-Err-gate.ensures in
-    let P = IsOpening t body u.reading in
+    let P = IsSlotOpening t body u.reading in
     goes_fails P 1 1 (gathered held) (with_body held body) u v w (body_down t body held u v d.same.1 d.images d.writes d.later d.commits)
     (record {
       blocks = e.blocks_err;
@@ -78,7 +78,7 @@ returns-clause-goes g c held =
     let w = g.D.Disk.view c.in-Ok-gate.opened.disk in
     let d = c.in-Ok.ensures in
     let e = c.in-Ok-gate.ensures in
-    let P = IsOpening t body u.reading in
+    let P = IsSlotOpening t body u.reading in
     let ends = λ (l : List Commit). l ++ whole_commit held body ∷ [] in
     let all = goes_goes P 1 1 (gathered held) (with_body held body) u v w (body_down t body held u v d.same.1 d.images d.writes d.later d.commits) ends nothing_written
     (record {
@@ -100,3 +100,27 @@ returns-clause-done g c =
     let gate = subst (λ (x : Slot). Puts (gate_place x) (1 ∷ []) v (g.D.Disk.view c.in-Ok-gate.opened.disk)) c.in-Ok.ensures.same.0 c.in-Ok-gate.ensures.put in
     read_then (λ r. put r (gate_place t + 8) (body_bytes c.args.body)) (λ r. put r (gate_place t) (1 ∷ [])) (finished t [] c.args.body) u.reading v.reading (g.D.Disk.view c.into_disk.result).reading
     c.in-Ok.ensures.put (ap (λ x. (g.D.Disk.view x).reading) c.into_disk.ensures.same ∙ gate) (λ r is. refl)
+
+-- the gate is written over the body
+gates_last : (t s : Slot) (body : SlotBody) (u v w : DiskView) → t ≡ s → u.moment ≤ v.moment → Puts (gate_place s + 8) (body_bytes body) u v → LeavesOnly v w (IsTornAt (gate_place t) 1 v.reading) → GatesLast s body u w
+gates_last t s body u v w same later puts leaves = record {
+  bodied = v.moment;
+  first = later;
+  last = leaves.later;
+  since = λ image left r is. subst (λ (x : Slot). SameOutside ((gate_place x, 1) ∷ []) r image) same (leaves.each image left r (puts ∙ is));
+}
+
+pub returns-in-Err-clause-order_err : goal.returns-in-Err-clause-order_err
+returns-in-Err-clause-order_err g c = inl c.in-Err.ensures.images_err
+
+pub returns-in-Err-gate-clause-order_err : goal.returns-in-Err-gate-clause-order_err
+returns-in-Err-gate-clause-order_err g c =
+    let d = c.in-Ok.ensures in
+    inr (gates_last c.in-Ok.bodied.target c.args.laid.target c.args.body _ _ _ d.same.0 d.images.later d.put c.in-Err-gate.ensures.images_err)
+
+pub returns-clause-order : goal.returns-clause-order
+returns-clause-order g c =
+    let d = c.in-Ok.ensures in
+    let u = g.D.Disk.view c.args.laid.disk in
+    subst (λ x. GatesLast c.args.laid.target c.args.body u (g.D.Disk.view x)) (sym c.into_disk.ensures.same)
+    (gates_last c.in-Ok.bodied.target c.args.laid.target c.args.body _ _ _ d.same.0 d.images.later d.put c.in-Ok-gate.ensures.images)
