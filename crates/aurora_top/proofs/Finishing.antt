@@ -1,39 +1,41 @@
 -- Which ends a command can have: Usage where its words spell none, and its own where nothing hinders it.
-use Rattle.std.proofs.Common.{◌≡◌, inl, inr, ℕ, ◌≤◌, List, Option, Some, None, refl, sym, ap, ◌∙◌, subst, arith}
+use Rattle.std.proofs.Common.{◌≡◌, ◌⊎◌, inl, inr, ℕ, List, Option, Some, None, refl, sym, ap, ◌∙◌, subst, arith}
 use Rattle.std.specs.Prelude.{◌↔◌, IsTrue}
-use Rattle.std.specs.Option.{ForSome, MatchOption, is_some}
-use Rattle.dev_traits.specs.Counts.{Rose}
+use Rattle.std.specs.Option.{MatchOption, is_some}
 use Rattle.dev_traits.specs.Disk.{DiskView}
 use Rattle.dev_traits.specs.Outside.{FilesView, SinkView}
-use Rattle.group_defs.specs.declared.run.AckMark.{AckMark}
-use Rattle.group_defs.specs.declared.run.Mark.{Mark}
+use Rattle.run_defs.specs.declared.run.AckMark.{AckMark}
+use Rattle.run_defs.specs.declared.run.Mark.{Mark}
 use Rattle.group_defs.specs.Group.{Group}
 use Rattle.ckpt_chain.specs.Slot.{newest}
-use Rattle.ckpt_records.specs.Holds.{Holds}
-use Rattle.ckpt_records.proofs.Unique.{held_once}
+use Rattle.ckpt_chain.specs.declared.slot.Slot.{Slot}
+use Rattle.ckpt_records.specs.declared.meta.PagePlace.{PagePlace}
+use Rattle.ckpt_records.specs.Holds.{Holds, HoldsAt}
 use Rattle.restore_group.specs.Outcome.{IsOpenAt}
-use Rattle.solo_engine.specs.Origin.{IsUnworn, IsWithin}
-use Rattle.solo_engine.specs.Safe.{RunSoFar}
-use Rattle.solo_engine.specs.Answers.{EndsFor}
-use Rattle.solo_engine.specs.declared.run.RunAnswer.{RunAnswer}
-use Rattle.solo_engine.specs.declared.run.RunAnswer.TheVariants as answers
-use Rattle.aurora_top.specs.End.{end_for}
-use Rattle.aurora_top.specs.Answers.{HasAnswered, HasRun, WasRefused, WasRun}
-use Rattle.aurora_top.specs.Beginnings.{Asks, AsksRestore, AsksRun, BeginsWith, CanBegin}
-use Rattle.aurora_top.specs.Boot.{flat_group}
+use Rattle.ckpt_records.specs.Origin.{IsUnworn, IsWithin}
+use Rattle.sls_core.specs.Safe.{RunSoFar}
+use Rattle.sls_core.specs.Answers.{EndsFor}
+use Rattle.sls_core.specs.declared.run.RunAnswer.{RunAnswer}
+use Rattle.sls_core.specs.declared.run.RunAnswer.TheVariants as answers
+use Rattle.aurora_top.specs.Ending.{end_for}
+use Rattle.aurora_top.specs.Answers.{WasRefused, WasRun}
+use Rattle.aurora_top.specs.Beginnings.{AsksRestore, AsksRun, BeginsWith}
 use Rattle.aurora_top.specs.Complete.{IsGiven, IsOfRun, IsReady, IsUnhindered}
-use Rattle.aurora_top.specs.Manifest.{NamesImage}
-use Rattle.aurora_top.specs.Refusals.{IsStrange, Refused}
-use Rattle.aurora_top.specs.Words.{Asked, Beginning, new, held, command_of_words}
-use Rattle.aurora_top.specs.declared.end.End.{End}
-use Rattle.aurora_top.specs.declared.end.End.TheVariants.{Done, Stuck, Spent, Usage, NotBuilt, NoCheckpoint, Occupied, Damaged, DiskFault, SinkFault, FilesFault, DiskFull, NoMemory, DiskShape, SinkStrange, Worn}
+use Rattle.group_boot.specs.Manifest.{NamesImage}
+use Rattle.aurora_top.specs.Refusals.{Refused}
+use Rattle.command_words.specs.Words.{command_of_words}
+use Rattle.command_words.specs.declared.words.Command.{Command}
+use Rattle.command_words.specs.declared.words.Beginning.{Beginning}
+use Rattle.command_words.specs.declared.words.Beginning.TheVariants.{Manifest, Checkpoint}
+use Rattle.command_words.specs.declared.end.End.{End}
+use Rattle.command_words.specs.declared.end.End.TheVariants.{Done, Stuck, Spent, Usage, NotBuilt, NoCheckpoint, Occupied, Damaged, DiskFault, SinkFault, FilesFault, DiskFull, NoMemory, DiskShape, SinkStrange, Worn}
 
 -- ---- Usage
 
-spells_none : (words : List (List ℕ)) (command : Asked) → command_of_words words ≡ Some command → command_of_words words ≡ None → ⊥
+spells_none : (words : List (List ℕ)) (command : Command (List ℕ)) → command_of_words words ≡ Some command → command_of_words words ≡ None → ⊥
 spells_none words command some none = absurd (let both : Some command ≡ None = sym some ∙ none in cc)
 
-none_told : (o : Option Asked) → IsTrue (is_some o) → o ≡ None → ⊥
+none_told : (o : Option (Command (List ℕ))) → IsTrue (is_some o) → o ≡ None → ⊥
 none_told None some none = absurd cc
 none_told (Some command) some none = absurd cc
 
@@ -67,25 +69,20 @@ no_usage answers.SinkFault epoch turns last is = cc
 no_usage (answers.DiskFull need free) epoch turns last is = cc
 no_usage answers.NoMemory epoch turns last is = cc
 
-module _ (words : List (List ℕ)) (disk disk' : DiskView) (files files' : FilesView) (out out' : SinkView) (epoch : ℕ) (trace : List Mark) (acks : List AckMark) where
-  never_usage : (o : Option ℕ) → HasRun words disk disk' files out out' o epoch trace acks Usage → ⊥
-  never_usage None run = absurd run
-  never_usage (Some at) run = absurd (no_usage run.answer _ _ _ run.end_is)
+module _ (words : List (List ℕ)) (disk disk' : DiskView) (files files' : FilesView) (out out' : SinkView) (at epoch : ℕ) (trace : List Mark) (acks : List AckMark) where
+  abbrev HasAnswered : End → Type 0
+  HasAnswered e = WasRefused words disk disk' files files' out out' at epoch trace acks e ⊎ WasRun words disk disk' files out out' at epoch trace acks e
 
-  never_none : (o : Option ℕ) (e : End) → HasRun words disk disk' files out out' o epoch trace acks e → command_of_words words ≡ None → ⊥
-  never_none None e run none = absurd run
-  never_none (Some at) e run none = spells_none words run.command run.begins.asks.spelled none
+  usage_spelled : HasAnswered Usage → command_of_words words ≡ None
+  usage_spelled (inl refused) = refused.why
+  usage_spelled (inr run) = absurd (no_usage run.answer _ _ _ run.end_is)
 
-  usage_spelled : (o : Option ℕ) → HasAnswered words disk disk' files files' out out' o epoch trace acks Usage → command_of_words words ≡ None
-  usage_spelled o (inl refused) = refused.why
-  usage_spelled o (inr run) = absurd (never_usage o run)
+  none_usage : (e : End) → HasAnswered e → command_of_words words ≡ None → e ≡ Usage
+  none_usage e (inl refused) none = refused_none words disk disk' files files' out e refused.why none
+  none_usage e (inr run) none = absurd (spells_none words run.command run.begins.asks.spelled none)
 
-  none_usage : (o : Option ℕ) (e : End) → HasAnswered words disk disk' files files' out out' o epoch trace acks e → command_of_words words ≡ None → e ≡ Usage
-  none_usage o e (inl refused) none = refused_none words disk disk' files files' out e refused.why none
-  none_usage o e (inr run) none = absurd (never_none o e run none)
-
-  pub usage_law : (o : Option ℕ) (e : End) → HasAnswered words disk disk' files files' out out' o epoch trace acks e → (e ≡ Usage) ↔ (command_of_words words ≡ None)
-  usage_law o e answered = ((λ is. usage_spelled o (subst (HasAnswered words disk disk' files files' out out' o epoch trace acks) is answered)), none_usage o e answered)
+  pub usage_law : (e : End) → HasAnswered e → (e ≡ Usage) ↔ (command_of_words words ≡ None)
+  usage_law e answered = ((λ is. usage_spelled (subst HasAnswered is answered)), none_usage e answered)
 
 -- ---- where nothing hinders a command
 
@@ -99,39 +96,44 @@ never_open r epoch none is = absurd (let both : Some (is.slot, is.body) ≡ None
 held_open : (r : List ℕ) (epoch : ℕ) (g : Group) → Holds r epoch g → newest r ≡ None → ⊥
 held_open r epoch g holds none = absurd (let both : Some (holds.slot, holds.at.body) ≡ None = sym holds.at.newest_is ∙ none in cc)
 
-same_held : (r : List ℕ) (e f : ℕ) (g h : Group) → Holds r e g → Holds r f h → (e ≡ f) × (g ≡ h)
-same_held r e f g h a b = let one = held_once r e f g h a.pages b.pages a.metas b.metas a.slot b.slot a.at b.at in (one.0, one.1)
+-- an image holds one group, in one place
+abbrev pub HoldOne : Type 0
+HoldOne = (image : List ℕ) (e f : ℕ) (g h : Group) (ps qs : List PagePlace) (ms ns : List ℕ) (s t : Slot) → HoldsAt image e g ps ms s → HoldsAt image f h qs ns t
+    → (e ≡ f) × (g ≡ h) × (ps ≡ qs) × (ms ≡ ns) × (s ≡ t)
+
+same_held : HoldOne → (r : List ℕ) (e f : ℕ) (g h : Group) → Holds r e g → Holds r f h → (e ≡ f) × (g ≡ h)
+same_held one r e f g h a b = let same = one r e f g h a.pages b.pages a.metas b.metas a.slot b.slot a.at b.at in (same.0, same.1)
 
 -- the group of a ready disk is the one that begins
-ready_unworn : (r : List ℕ) (out : SinkView) (epoch : ℕ) (g : Group) → IsReady r out → Holds r epoch g → IsUnworn epoch g.frame
-ready_unworn r out epoch g ready holds =
-    let one = same_held r ready.epoch epoch ready.start g ready.held holds in
-    subst (λ (n : ℕ). IsUnworn n g.frame) one.0 (subst (λ (h : Group). IsUnworn ready.epoch h.frame) one.1 ready.unworn)
+ready_unworn : HoldOne → (r : List ℕ) (out : SinkView) (epoch : ℕ) (g : Group) → IsReady r out → Holds r epoch g → IsUnworn epoch g.frame
+ready_unworn one r out epoch g ready holds =
+    let same = same_held one r ready.epoch epoch ready.start g ready.held holds in
+    subst (λ (n : ℕ). IsUnworn n g.frame) same.0 (subst (λ (h : Group). IsUnworn ready.epoch h.frame) same.1 ready.unworn)
 
-ready_within : (r : List ℕ) (out : SinkView) (epoch : ℕ) (g : Group) → IsReady r out → Holds r epoch g → IsWithin out g.frame.out
-ready_within r out epoch g ready holds =
-    let one = same_held r ready.epoch epoch ready.start g ready.held holds in
-    subst (λ (h : Group). IsWithin out h.frame.out) one.1 ready.within
+ready_within : HoldOne → (r : List ℕ) (out : SinkView) (epoch : ℕ) (g : Group) → IsReady r out → Holds r epoch g → IsWithin out g.frame.out
+ready_within one r out epoch g ready holds =
+    let same = same_held one r ready.epoch epoch ready.start g ready.held holds in
+    subst (λ (h : Group). IsWithin out h.frame.out) same.1 ready.within
 
-given_within : (beginning : Beginning) (disk : DiskView) (files : FilesView) (out : SinkView) (start : Group) (epoch : ℕ) → IsGiven beginning disk files out → BeginsWith beginning disk files start epoch → IsWithin out start.frame.out
-given_within (new manifest) disk files out start epoch given begins =
+given_within : HoldOne → (beginning : Beginning (List ℕ)) (disk : DiskView) (files : FilesView) (out : SinkView) (start : Group) (epoch : ℕ) → IsGiven beginning disk files out → BeginsWith beginning disk files start epoch → IsWithin out start.frame.out
+given_within one (Manifest manifest) disk files out start epoch given begins =
     subst (λ (g : Group). IsWithin out g.frame.out) (sym begins.2) (omega (arith, given.2), omega (arith, given.2))
-given_within held disk files out start epoch given begins =
+given_within one Checkpoint disk files out start epoch given begins =
     let is = told disk.reading (λ r. IsReady r out) given in
-    ready_within is.0 out epoch start is.2 (begins.0 is.0 is.1)
+    ready_within one is.0 out epoch start is.2 (begins.0 is.0 is.1)
 
-module _ (words : List (List ℕ)) (disk disk' : DiskView) (files files' : FilesView) (out out' : SinkView) (u : IsUnhindered words disk disk' files files' out out') where
-  same_command : (command : Asked) → command_of_words words ≡ Some command → u.command ≡ command
+module _ (words : List (List ℕ)) (disk disk' : DiskView) (files files' : FilesView) (out out' : SinkView) (one : HoldOne) (u : IsUnhindered words disk disk' files files' out out') where
+  same_command : (command : Command (List ℕ)) → command_of_words words ≡ Some command → u.command ≡ command
   same_command command spelled = let both : Some u.command ≡ Some command = sym u.asks.spelled ∙ spelled in cc
 
-  given_for : (command : Asked) (beginning : Beginning) → command_of_words words ≡ Some command → command.beginning ≡ beginning → IsGiven beginning disk files out
-  given_for command beginning spelled is = subst (λ (b : Beginning). IsGiven b disk files out) (ap (λ (a : Asked). a.beginning) (same_command command spelled) ∙ is) u.given
+  given_for : (command : Command (List ℕ)) (beginning : Beginning (List ℕ)) → command_of_words words ≡ Some command → command.beginning ≡ beginning → IsGiven beginning disk files out
+  given_for command beginning spelled is = subst (λ (b : Beginning (List ℕ)). IsGiven b disk files out) (ap (λ (a : Command (List ℕ)). a.beginning) (same_command command spelled) ∙ is) u.given
 
-  given_new : (manifest : List ℕ) → AsksRun words disk.blocks manifest → IsGiven (new manifest) disk files out
-  given_new manifest asks = given_for asks.0 (new manifest) asks.1.spelled asks.2
+  given_new : (manifest : List ℕ) → AsksRun words disk.blocks manifest → IsGiven (Manifest manifest) disk files out
+  given_new manifest asks = given_for asks.0 (Manifest manifest) asks.1.spelled asks.2
 
   ready : AsksRestore words disk.blocks → (r : List ℕ) × (disk.reading ≡ Some r) × IsReady r out
-  ready asks = told disk.reading (λ r. IsReady r out) (given_for asks.0 held asks.1.spelled asks.2)
+  ready asks = told disk.reading (λ r. IsReady r out) (given_for asks.0 Checkpoint asks.1.spelled asks.2)
 
   refused_of_run : (e : End) → Refused words disk disk' files files' out e → IsOfRun e
   refused_of_run Usage why = absurd (spells_none words u.command u.asks.spelled why)
@@ -142,14 +144,14 @@ module _ (words : List (List ℕ)) (disk disk' : DiskView) (files files' : Files
       absurd (never_open is.0 epoch is.2 (why.2 is.0 is.1))
   refused_of_run NoCheckpoint why = let is = ready why.0 in absurd (held_open is.0 is.2.epoch is.2.start is.2.held (why.1 is.0 is.1))
   refused_of_run (Damaged epoch) why = let is = ready why.0 in absurd ((why.1 is.0 is.1).1 is.2.epoch is.2.start is.2.held)
-  refused_of_run (Worn epoch) why = let is = ready why.0 in absurd (why.3 (ready_unworn is.0 out epoch why.1 is.2 (why.2.0 is.0 is.1)))
+  refused_of_run (Worn epoch) why = let is = ready why.0 in absurd (why.3 (ready_unworn one is.0 out epoch why.1 is.2 (why.2.0 is.0 is.1)))
   refused_of_run FilesFault why = absurd (u.files_work why.3)
   refused_of_run NotBuilt why =
       let is = told files.contents (λ found. (image : List ℕ) × NamesImage found why.0 image) (given_new why.0 why.1).1 in
       absurd (why.3 is.0 is.1 is.2.0 is.2.1)
   refused_of_run (SinkStrange count from last) why =
       let given = given_for why.0 why.0.beginning why.3.asks.spelled refl in
-      absurd (why.4.outside (given_within why.0.beginning disk files out why.1 why.2 given why.3.begins))
+      absurd (why.4.outside (given_within one why.0.beginning disk files out why.1 why.2 given why.3.begins))
   refused_of_run NoMemory why = tt
   refused_of_run SinkFault why = absurd why
   refused_of_run (Done epoch turns output) why = tt
@@ -166,10 +168,6 @@ module _ (words : List (List ℕ)) (disk disk' : DiskView) (files files' : Files
   ended_of_run run (answers.DiskFull need free) epoch turns last ends = tt
   ended_of_run run answers.NoMemory epoch turns last ends = tt
 
-  run_of_run : (o : Option ℕ) (epoch : ℕ) (trace : List Mark) (acks : List AckMark) (e : End) → HasRun words disk disk' files out out' o epoch trace acks e → IsOfRun e
-  run_of_run None epoch trace acks e run = absurd run
-  run_of_run (Some at) epoch trace acks e run = subst IsOfRun (sym run.end_is) (ended_of_run _ run.answer _ _ _ run.ends)
-
-  pub complete_law : (o : Option ℕ) (epoch : ℕ) (trace : List Mark) (acks : List AckMark) (e : End) → HasAnswered words disk disk' files files' out out' o epoch trace acks e → IsOfRun e
-  complete_law o epoch trace acks e (inl refused) = refused_of_run e refused.why
-  complete_law o epoch trace acks e (inr run) = run_of_run o epoch trace acks e run
+  pub complete_law : (at epoch : ℕ) (trace : List Mark) (acks : List AckMark) (e : End) → WasRefused words disk disk' files files' out out' at epoch trace acks e ⊎ WasRun words disk disk' files out out' at epoch trace acks e → IsOfRun e
+  complete_law at epoch trace acks e (inl refused) = refused_of_run e refused.why
+  complete_law at epoch trace acks e (inr run) = subst IsOfRun (sym run.end_is) (ended_of_run _ run.answer _ _ _ run.run.safe.ends)

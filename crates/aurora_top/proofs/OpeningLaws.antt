@@ -1,59 +1,81 @@
--- What a stop leaves of a disk over its opening, and the moment of that.
-use Rattle.std.proofs.Common.{◌≡◌, inl, inr, ⊎_elim, ℕ, ◌≤◌, List, Option, Some, None, refl, ◌∙◌, arith}
-use Rattle.std.specs.Option.{unwrap_or}
-use Rattle.dev_traits.specs.Disk.{DiskView, LeftNow, NoMore, OnlyReading, Passes}
+-- What a stop leaves of a disk over its opening.
+use Rattle.std.proofs.Common.{◌≡◌, inl, inr, ⊎_elim, ℕ, ◌≤◌, List, refl, ◌∙◌, subst, arith, ◌⊎◌, Option, Some, None, ap, sym}
+use Rattle.dev_traits.specs.Commits.{Commits, OpenCommit, ended_by_sync, nothing_written, synced, unchanged, untold}
+use Rattle.dev_traits.specs.Disk.{CommitsBy, DiskView, LeftNow, NoMore, Passes}
 use Rattle.ckpt_chain.specs.Reads.{OnlyReads}
-use Rattle.solo_engine.specs.Safe.{IsUnwritten}
-use Rattle.aurora_top.specs.Opening.{IsBetween, IsOpenedAt}
+use Rattle.sls_core.specs.Safe.{HasNoneBegun, IsUnwritten}
+use Rattle.aurora_top.specs.Opening.{IsOpenedAt}
+use Rattle.aurora_top.specs.Starting.{IsOpened}
 
--- a call that writes nothing, or several
-pub unwritten_by : (before after : DiskView) → after.blocks ≡ before.blocks → after.reading ≡ before.reading → after.writes ≡ before.writes → before.faults ≤ after.faults → NoMore before after → Passes before after → IsUnwritten before after
-unwritten_by before after blocks reading writes faults no_more time = record {
+-- a later moment allows no image that an earlier one doesn't
+abbrev pub FewerLater : DiskView → Type 0
+FewerLater v = (t u : ℕ) (image : List ℕ) → t ≤ u → v.left u image → v.left t image
+
+-- ---- no commit is told
+
+-- a sync ends no commit where none has begun
+synced_none : (c : Commits) → (c.now ≡ None) ⊎ (c.now ≡ Some nothing_written) → synced c ≡ c
+synced_none c none = ⊎_elim (λ is. ap (ended_by_sync c.ended) is ∙ ap made (sym is)) (λ is. ap (ended_by_sync c.ended) is ∙ ap made (sym is)) none
+  where
+    made : Option OpenCommit → Commits
+    made now = record { ended = c.ended; now = now }
+
+pub none_synced : (before after : DiskView) → CommitsBy synced before after → HasNoneBegun before → CommitsBy unchanged before after
+none_synced before after (inl is) none = inl (is ∙ synced_none before.commits none)
+none_synced before after (inr is) none = inr is
+
+pub unchanged_then : (a b c : DiskView) → CommitsBy unchanged a b → CommitsBy unchanged b c → CommitsBy unchanged a c
+unchanged_then a b c (inl x) (inl y) = inl (y ∙ x)
+unchanged_then a b c (inl x) (inr y) = inr (y ∙ ap untold x)
+unchanged_then a b c (inr x) (inl y) = inr (y ∙ x)
+unchanged_then a b c (inr x) (inr y) = inr (y ∙ ap untold x)
+
+pub none_after : (a b : DiskView) → HasNoneBegun a → CommitsBy unchanged a b → HasNoneBegun b
+none_after a b none (inl same) = subst (λ (c : Commits). (c.now ≡ None) ⊎ (c.now ≡ Some nothing_written)) (sym same) none
+none_after a b none (inr same) = inl (ap (λ (c : Commits). c.now) same)
+
+-- ---- a call that writes nothing
+
+pub unwritten_by : (before after : DiskView) → after.blocks ≡ before.blocks → after.reading ≡ before.reading → after.writes ≡ before.writes
+    → before.faults ≤ after.faults → NoMore before after → Passes before after → FewerLater before → (HasNoneBegun before → CommitsBy unchanged before after) → IsUnwritten before after
+unwritten_by before after blocks reading writes faults no_more time fewer commits = record {
   blocks = blocks;
   reading = reading;
   writes = writes;
   later = faults;
-  left = λ image left. ⊎_elim (λ l. l) (λ here. no_more image here) (time.since before.moment image (omega arith) left);
+  left = λ t image le left. ⊎_elim (λ l. l) (λ here. fewer t before.moment image le (no_more image here)) (time.since t image le left);
+  commits = commits;
 }
 
 pub unwritten_itself : (v : DiskView) → IsUnwritten v v
-unwritten_itself v = record { blocks = refl; reading = refl; writes = refl; later = omega arith; left = λ image left. left }
+unwritten_itself v = record { blocks = refl; reading = refl; writes = refl; later = omega arith; left = λ t image le left. left; commits = λ none. inl refl }
 
--- a sync, and reads after it
-pub unwritten_then : (a b c : DiskView) → b.blocks ≡ a.blocks → b.reading ≡ a.reading → b.writes ≡ a.writes → a.faults ≤ b.faults → NoMore a b → Passes a b → OnlyReads b c → IsUnwritten a c
-unwritten_then a b c blocks reading writes faults no_more time reads = record {
-  blocks = reads.blocks ∙ blocks;
-  reading = reads.reading ∙ reading;
-  writes = reads.writes ∙ writes;
-  later = omega (arith, faults, reads.faults);
-  left = λ image left.
-      ⊎_elim
-      (λ earlier. ⊎_elim (λ l. l) (λ here. no_more image here) (time.since a.moment image (omega arith) earlier))
-      (λ here. no_more image (reads.no_more image here))
-      (reads.time.since a.moment image time.later left);
-}
+-- the opening: a sync that answered Ok, and reads behind it
+module _ (before synced after : DiskView) (at : ℕ) (is : IsOpened at before synced) (reads : OnlyReads synced after) where
+  pub unwritten_then : FewerLater synced → IsUnwritten before after
+  unwritten_then fewer = record {
+    blocks = reads.blocks ∙ is.unwritten.blocks;
+    reading = reads.reading ∙ is.unwritten.reading;
+    writes = reads.writes ∙ is.unwritten.writes;
+    later = omega (arith, is.unwritten.later, reads.faults);
+    left = λ t image le left.
+        let before_synced : t ≤ synced.moment = omega (arith, le, is.time.later) in
+        is.unwritten.left t image le
+        (⊎_elim (λ l. l) (λ here. fewer t synced.moment image before_synced (reads.no_more image here)) (reads.time.since t image before_synced left));
+    commits = λ none. unchanged_then before synced after (is.unwritten.commits none) reads.commits;
+  }
 
--- the opening: a sync that answered Ok, and reads
-pub opened_law : (before synced after : DiskView) → synced.reading ≡ before.reading → Passes before synced → OnlyReading synced → OnlyReads synced after → IsOpenedAt synced.moment before after
-opened_law before synced after same time only reads = record {
-  not_before = time.later;
-  not_after = reads.time.later;
-  opened = λ r told image left. only r (same ∙ told) image (now image left);
-  entered = λ r told image left.
-      ⊎_elim
-      (λ earlier. ⊎_elim (λ l. inl l) (λ here. inr (only r (same ∙ told) image here)) (time.since before.moment image (omega arith) earlier))
-      (λ here. inr (only r (same ∙ told) image (reads.no_more image here)))
-      (reads.time.since before.moment image time.later left);
-}
-  where
-    now : (image : List ℕ) → after.left synced.moment image → LeftNow synced image
-    now image left = ⊎_elim (λ l. l) (λ here. reads.no_more image here) (reads.time.since synced.moment image (omega arith) left)
+  now : (image : List ℕ) → after.left synced.moment image → LeftNow synced image
+  now image left = ⊎_elim (λ l. l) (λ here. reads.no_more image here) (reads.time.since synced.moment image (omega arith) left)
 
--- the moment of the opening lies between, also after more calls
-pub between_later : (o : Option ℕ) (before opened disk : DiskView) → IsBetween o before opened → opened.moment ≤ disk.moment → IsBetween o before disk
-between_later None before opened disk is later = omega (arith, is, later)
-between_later (Some at) before opened disk is later = (is.0, omega (arith, is.1, later))
-
-pub between_told : (o : Option ℕ) (before disk : DiskView) (at : ℕ) → IsBetween o before disk → at ≡ unwrap_or o disk.moment → (before.moment ≤ at) × (at ≤ disk.moment)
-between_told None before disk at is same = (omega (arith, is, same), omega (arith, same))
-between_told (Some x) before disk at is same = (omega (arith, is.0, same), omega (arith, is.1, same))
+  pub opened_law : IsOpenedAt at before after
+  opened_law = record {
+    not_before = omega (arith, is.at_is, is.time.later);
+    not_after = omega (arith, is.at_is, reads.time.later);
+    opened = λ r told image left. is.only r (is.unwritten.reading ∙ told) image (now image (subst (λ (t : ℕ). after.left t image) is.at_is left));
+    entered = λ r told t image le left.
+        ⊎_elim
+        (λ earlier. ⊎_elim (λ l. inl l) (λ here. inr (is.only r (is.unwritten.reading ∙ told) image here)) (is.time.since t image le earlier))
+        (λ here. inr (is.only r (is.unwritten.reading ∙ told) image (reads.no_more image here)))
+        (reads.time.since t image (omega (arith, le, is.time.later)) left);
+  }

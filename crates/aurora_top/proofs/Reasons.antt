@@ -1,34 +1,35 @@
 -- Why commands are refused: from the reasons of their parts, and over the opening of the disk.
-use Rattle.std.proofs.Common.{◌≡◌, inl, inr, ℕ, ◌≤◌, List, Option, Some, None, refl, sym, ap, ◌∙◌, subst, arith}
-use Rattle.std.specs.Prelude.{◌<◌, Result, Ok, Err, IfOk, IfErr, IsErrAnd, OnOk, true, false}
-use Rattle.std.specs.Result.{is_err}
+use Rattle.std.proofs.Common.{◌≡◌, inl, inr, ℕ, ◌≤◌, List, Some, None, refl, sym, ◌∙◌, subst, arith}
+use Rattle.std.specs.Prelude.{◌<◌, Result, Ok, Err, IfOk}
 use Rattle.std.specs.List.{AllByRecursion}
 use Rattle.std.specs.Option.{ForSome}
-use Rattle.dev_traits.specs.Counts.{Rose}
 use Rattle.dev_traits.specs.Disk.{DiskView}
 use Rattle.dev_traits.specs.Outside.{FilesView, SinkView}
 use Rattle.group_defs.specs.Group.{Group}
 use Rattle.group_defs.specs.Output.{last_position}
 use Rattle.ckpt_chain.specs.Chain.{InDisk}
-use Rattle.ckpt_chain.specs.Slot.{newest}
-use Rattle.ckpt_records.specs.Holds.{Holds, IsCheckpointed}
+use Rattle.ckpt_records.specs.Holds.{Holds}
 use Rattle.ckpt_records.specs.declared.origin.Origin.{Origin}
-use Rattle.restore_group.specs.Outcome.{FaultIsCause, HoldsNothing, IsOpenAt, IsOutcome, IsRestored, IsSound}
-use Rattle.restore_group.specs.Parts.{group_of}
+use Rattle.restore_group.specs.Outcome.{FaultIsCause, IsOutcome, IsSound}
+use Rattle.ckpt_records.specs.Origin.{IsRestored}
+use Rattle.ckpt_records.specs.Parts.{group_of}
 use Rattle.restore_group.specs.declared.restoring.Refused.{Refused as RestoreRefused}
 use Rattle.restore_group.specs.declared.restoring.Refused.TheVariants as restored
-use Rattle.solo_engine.specs.Origin.{HasSize, IsOld, IsOrigin, IsOriginOf, IsUnworn, IsWithin}
+use Rattle.ckpt_records.specs.Origin.{HasSize, IsOld, IsOrigin, IsUnworn, IsWithin}
 use Rattle.aurora_top.specs.Beginnings.{Asks, AsksRestore, AsksRun, BeginsWith, CanBegin, SuitsDisk}
-use Rattle.aurora_top.specs.Causes.{RefusedByDisk, RefusedByFiles, end_loading, end_opening, end_restoring}
-use Rattle.aurora_top.specs.Manifest.{NamesImage, IsNamed}
+use Rattle.aurora_top.specs.Causes.{RefusedByDisk, end_loading, end_opening, end_restoring}
+use Rattle.group_boot.specs.Causes.{RefusedByFiles}
 use Rattle.aurora_top.specs.Opening.{IsOpenedAt, IsOpening}
-use Rattle.aurora_top.specs.Refusals.{IsStrange, Refused}
-use Rattle.aurora_top.specs.Starting.{IsBegun, IsStarted}
-use Rattle.aurora_top.specs.Words.{Asked, Beginning, new, held, command_of_words}
-use Rattle.aurora_top.specs.declared.end.End.{End}
-use Rattle.aurora_top.specs.declared.end.End.TheVariants.{Done, Stuck, Spent, Usage, NotBuilt, NoCheckpoint, Occupied, Damaged, DiskFault, SinkFault, FilesFault, DiskFull, NoMemory, DiskShape, SinkStrange, Worn}
-use Rattle.aurora_top.specs.declared.manifest.LoadRefused.{LoadRefused}
-use Rattle.aurora_top.specs.declared.manifest.LoadRefused.TheVariants as loads
+use Rattle.aurora_top.specs.Refusals.{Refused}
+use Rattle.sls_core.specs.Safe.{IsUnwritten}
+use Rattle.aurora_top.specs.Starting.{IsBegun}
+use Rattle.command_words.specs.declared.words.Command.{Command}
+use Rattle.command_words.specs.declared.words.Beginning.{Beginning}
+use Rattle.command_words.specs.declared.words.Beginning.TheVariants.{Manifest, Checkpoint}
+use Rattle.command_words.specs.declared.end.End.{End}
+use Rattle.command_words.specs.declared.end.End.TheVariants.{Done, Stuck, Spent, Usage, NotBuilt, NoCheckpoint, Occupied, Damaged, DiskFault, SinkFault, FilesFault, DiskFull, NoMemory, DiskShape, SinkStrange, Worn}
+use Rattle.group_boot.specs.declared.manifest.LoadRefused.{LoadRefused}
+use Rattle.group_boot.specs.declared.manifest.LoadRefused.TheVariants as loads
 use Rattle.aurora_top.specs.declared.opening.OpenRefused.{OpenRefused}
 use Rattle.aurora_top.specs.declared.opening.OpenRefused.TheVariants as opens
 
@@ -39,11 +40,11 @@ pub by_opening : (words : List (List ℕ)) (disk disk' : DiskView) (files files'
 by_opening words disk disk' files files' sink manifest (opens.Occupied epoch) why asks = (manifest, asks, why)
 by_opening words disk disk' files files' sink manifest opens.DiskFault why asks = (asks.0, asks.1, why)
 
-pub by_loading : (words : List (List ℕ)) (disk disk' : DiskView) (files files' : FilesView) (sink : SinkView) (manifest : List ℕ) (e : LoadRefused) → SuitsDisk (new manifest) disk → RefusedByFiles manifest files files' e
+pub by_loading : (words : List (List ℕ)) (disk disk' : DiskView) (files files' : FilesView) (sink : SinkView) (manifest : List ℕ) (e : LoadRefused) → SuitsDisk (Manifest manifest) disk → RefusedByFiles manifest files files' e
     → AsksRun words disk.blocks manifest → Refused words disk disk' files files' sink (end_loading e)
 by_loading words disk disk' files files' sink manifest loads.NotBuilt unused why asks = (manifest, asks, unused, why)
 by_loading words disk disk' files files' sink manifest loads.FilesFault unused why asks = (manifest, asks, unused, why)
-by_loading words disk disk' files files' sink manifest loads.NoMemory unused why asks = (asks.0, asks.1, subst (λ (b : Beginning). SuitsDisk b disk) (sym asks.2) unused)
+by_loading words disk disk' files files' sink manifest loads.NoMemory unused why asks = (asks.0, asks.1, subst (λ (b : Beginning (List ℕ)). SuitsDisk b disk) (sym asks.2) unused)
 
 -- ---- a restored run
 
@@ -55,7 +56,7 @@ pub by_restoring : (words : List (List ℕ)) (disk disk' : DiskView) (files file
 by_restoring words disk disk' files files' sink restored.NoCheckpoint outcome cause asks = (asks, outcome)
 by_restoring words disk disk' files files' sink (restored.Damaged epoch) outcome cause asks = (asks, outcome)
 by_restoring words disk disk' files files' sink restored.DiskFault outcome cause asks = (asks.0, asks.1, cause)
-by_restoring words disk disk' files files' sink restored.NoMemory outcome cause asks = (asks.0, asks.1, subst (λ (b : Beginning). SuitsDisk b disk) (sym asks.2) outcome)
+by_restoring words disk disk' files files' sink restored.NoMemory outcome cause asks = (asks.0, asks.1, subst (λ (b : Beginning (List ℕ)). SuitsDisk b disk) (sym asks.2) outcome)
 
 holds : (r : List ℕ) (o : Origin) → IsRestored r o → Holds r o.epoch (group_of o.parts)
 holds r o is = record { pages = o.placement.pages; metas = o.placement.metas; slot = o.placement.slot; at = is.held }
@@ -80,7 +81,7 @@ is_old count o sound = record {
   metas = metas_within count o.placement.metas sound.metas;
 }
 
-pub begun_held : (disk : DiskView) (files : FilesView) (o : Origin) → IsSound disk.blocks o → OutcomeOf disk (Ok o) → IsUnworn o.epoch o.parts.frame → IsBegun held disk files o
+pub begun_held : (disk : DiskView) (files : FilesView) (o : Origin) → IsSound disk.blocks o → OutcomeOf disk (Ok o) → IsUnworn o.epoch o.parts.frame → IsBegun Checkpoint disk files o
 begun_held disk files o sound outcome unworn = record {
   suits = λ r told none. absurd (let both : Some (o.placement.slot, (outcome r told).held.body) ≡ None = sym (outcome r told).held.newest_is ∙ none in cc);
   begins = ((λ r told. holds r o (outcome r told)), sound.group, sound.epoch);
@@ -89,11 +90,7 @@ begun_held disk files o sound outcome unworn = record {
   held = λ r told. inl (sound.epoch, outcome r told);
 }
 
--- ---- an error that a conversion gave
-
-pub converted : {T E F : Type 0} (r : Result T F) (f : E → F) (e : E) (P : F → Type 0) → IsErrAnd r (λ x. x ≡ f e) → P (f e) → IfErr r P
-converted (Ok x) f e P gives p = absurd gives
-converted (Err y) f e P gives p = subst P (sym gives) p
+-- ---- for files that a checkpoint doesn't ask for
 
 pub for_all_files : {T E : Type 0} (r : Result T E) (P : FilesView → T → Type 0) (files : FilesView) → IfOk r (λ x. (f : FilesView) → P f x) → IfOk r (P files)
 for_all_files (Ok x) P files all = all files
@@ -102,11 +99,8 @@ for_all_files (Err e) P files all = tt
 -- ---- over the opening: a disk with the same blocks and reading, and no fewer faults
 
 module _ (before opened : DiskView) (blocks : opened.blocks ≡ before.blocks) (reading : opened.reading ≡ before.reading) (faults : before.faults ≤ opened.faults) where
-  asks_before : (words : List (List ℕ)) (command : Asked) → Asks words opened.blocks command → Asks words before.blocks command
+  asks_before : (words : List (List ℕ)) (command : Command (List ℕ)) → Asks words opened.blocks command → Asks words before.blocks command
   asks_before words command asks = subst (λ n. Asks words n command) blocks asks
-
-  asks_opened : (words : List (List ℕ)) (command : Asked) → Asks words before.blocks command → Asks words opened.blocks command
-  asks_opened words command asks = subst (λ n. Asks words n command) (sym blocks) asks
 
   runs_before : (words : List (List ℕ)) (manifest : List ℕ) → AsksRun words opened.blocks manifest → AsksRun words before.blocks manifest
   runs_before words manifest asks = (asks.0, asks_before words asks.0 asks.1, asks.2)
@@ -114,15 +108,15 @@ module _ (before opened : DiskView) (blocks : opened.blocks ≡ before.blocks) (
   restores_before : (words : List (List ℕ)) → AsksRestore words opened.blocks → AsksRestore words before.blocks
   restores_before words asks = (asks.0, asks_before words asks.0 asks.1, asks.2)
 
-  suits_before : (beginning : Beginning) → SuitsDisk beginning opened → SuitsDisk beginning before
-  suits_before (new manifest) suits = λ r told. suits r (reading ∙ told)
-  suits_before held suits = λ r told. suits r (reading ∙ told)
+  suits_before : (beginning : Beginning (List ℕ)) → SuitsDisk beginning opened → SuitsDisk beginning before
+  suits_before (Manifest manifest) suits = λ r told. suits r (reading ∙ told)
+  suits_before Checkpoint suits = λ r told. suits r (reading ∙ told)
 
-  begins_before : (beginning : Beginning) (files : FilesView) (start : Group) (epoch : ℕ) → BeginsWith beginning opened files start epoch → BeginsWith beginning before files start epoch
-  begins_before (new manifest) files start epoch begins = begins
-  begins_before held files start epoch begins = ((λ r told. begins.0 r (reading ∙ told)), begins.1, begins.2)
+  begins_before : (beginning : Beginning (List ℕ)) (files : FilesView) (start : Group) (epoch : ℕ) → BeginsWith beginning opened files start epoch → BeginsWith beginning before files start epoch
+  begins_before (Manifest manifest) files start epoch begins = begins
+  begins_before Checkpoint files start epoch begins = ((λ r told. begins.0 r (reading ∙ told)), begins.1, begins.2)
 
-  can_begin_before : (words : List (List ℕ)) (files : FilesView) (command : Asked) (start : Group) (epoch : ℕ) → CanBegin words opened files command start epoch → CanBegin words before files command start epoch
+  can_begin_before : (words : List (List ℕ)) (files : FilesView) (command : Command (List ℕ)) (start : Group) (epoch : ℕ) → CanBegin words opened files command start epoch → CanBegin words before files command start epoch
   can_begin_before words files command start epoch can = record {
     asks = asks_before words command can.asks;
     suits = suits_before command.beginning can.suits;
@@ -137,7 +131,7 @@ module _ (before opened : DiskView) (blocks : opened.blocks ≡ before.blocks) (
   refused_before words after files files' sink (Occupied epoch) why = (why.0, runs_before words why.0 why.1, (λ r told. why.2 r (reading ∙ told)))
   refused_before words after files files' sink NoCheckpoint why = (restores_before words why.0, (λ r told. why.1 r (reading ∙ told)))
   refused_before words after files files' sink (Damaged epoch) why = (restores_before words why.0, (λ r told. why.1 r (reading ∙ told)))
-  refused_before words after files files' sink (Worn epoch) why = (restores_before words why.0, why.1, begins_before held files why.1 epoch why.2, why.3)
+  refused_before words after files files' sink (Worn epoch) why = (restores_before words why.0, why.1, begins_before Checkpoint files why.1 epoch why.2, why.3)
   refused_before words after files files' sink FilesFault why = (why.0, runs_before words why.0 why.1, (λ r told. why.2 r (reading ∙ told)), why.3)
   refused_before words after files files' sink NotBuilt why = (why.0, runs_before words why.0 why.1, (λ r told. why.2 r (reading ∙ told)), why.3)
   refused_before words after files files' sink (SinkStrange count from last) why = (why.0, why.1, why.2, can_begin_before words files why.0 why.1 why.2 why.3, why.4)
@@ -148,7 +142,7 @@ module _ (before opened : DiskView) (blocks : opened.blocks ≡ before.blocks) (
   refused_before words after files files' sink (Spent epoch turns output) why = absurd why
   refused_before words after files files' sink (DiskFull need free) why = absurd why
 
-  pub begun_before : (beginning : Beginning) (files : FilesView) (o : Origin) → IsBegun beginning opened files o → IsBegun beginning before files o
+  pub begun_before : (beginning : Beginning (List ℕ)) (files : FilesView) (o : Origin) → IsBegun beginning opened files o → IsBegun beginning before files o
   begun_before beginning files o begun = record {
     suits = suits_before beginning begun.suits;
     begins = begins_before beginning files (group_of o.parts) o.epoch begun.begins;
@@ -159,14 +153,14 @@ module _ (before opened : DiskView) (blocks : opened.blocks ≡ before.blocks) (
 
 -- ---- the last test
 
-pub can_begin : (words : List (List ℕ)) (disk : DiskView) (files : FilesView) (command : Asked) (o : Origin) → Asks words disk.blocks command → IsBegun command.beginning disk files o → CanBegin words disk files command (group_of o.parts) o.epoch
+pub can_begin : (words : List (List ℕ)) (disk : DiskView) (files : FilesView) (command : Command (List ℕ)) (o : Origin) → Asks words disk.blocks command → IsBegun command.beginning disk files o → CanBegin words disk files command (group_of o.parts) o.epoch
 can_begin words disk files command o asks begun = record { asks = asks; suits = begun.suits; begins = begun.begins; unworn = begun.unworn }
 
 pub all_marked : (count : ℕ) (o : Origin) → IsOrigin count o → o.parts.frame.out.mark ≡ last_position o.parts.frame.out
 all_marked count o (inl fresh) = fresh.group.all_marked
 all_marked count o (inr old) = old.group.all_marked
 
-pub by_count : (words : List (List ℕ)) (disk disk' : DiskView) (files files' : FilesView) (out : SinkView) (command : Asked) (o : Origin) (count : ℕ) → Asks words disk.blocks command → IsBegun command.beginning disk files o → count ≡ out.count
+pub by_count : (words : List (List ℕ)) (disk disk' : DiskView) (files files' : FilesView) (out : SinkView) (command : Command (List ℕ)) (o : Origin) (count : ℕ) → Asks words disk.blocks command → IsBegun command.beginning disk files o → count ≡ out.count
     → (IsWithin out o.parts.frame.out → ⊥) → Refused words disk disk' files files' out (SinkStrange count o.parts.frame.out.from o.parts.frame.out.mark)
 by_count words disk disk' files files' out command o count asks begun is outside = (
   command,
@@ -179,7 +173,7 @@ by_count words disk disk' files files' out command o count asks begun is outside
 -- ---- the moment told
 
 -- after the opening sync a command's words and the disk's size are right
-pub told_opening : (words : List (List ℕ)) (before after : DiskView) (files files' : FilesView) (out : SinkView) (command : Asked) (at : ℕ) (e : End) → Asks words before.blocks command → Refused words before after files files' out e → IsOpenedAt at before after
+pub told_opening : (words : List (List ℕ)) (before after : DiskView) (files files' : FilesView) (out : SinkView) (command : Command (List ℕ)) (at : ℕ) (e : End) → Asks words before.blocks command → Refused words before after files files' out e → IsOpenedAt at before after
     → IsOpening e at before after
 told_opening words before after files files' out command at Usage asks why opened = absurd (let both : Some command ≡ None = sym asks.spelled ∙ why in cc)
 told_opening words before after files files' out command at (DiskShape n) asks why opened = absurd (why.2 asks.size)
@@ -200,23 +194,12 @@ told_opening words before after files files' out command at (DiskFull need free)
 
 -- ---- all tests
 
-pub asks_for : (words : List (List ℕ)) (disk : DiskView) (command : Asked) → Some command ≡ command_of_words words → HasSize disk.blocks → Asks words disk.blocks command
-asks_for words disk command spelled size = record { spelled = sym spelled; size = size }
+module _ (words : List (List ℕ)) (before opened after : DiskView) (files : FilesView) (command : Command (List ℕ)) (asks : Asks words before.blocks command) (unwritten : IsUnwritten before opened) where
+  pub refused_at_origin : (files' : FilesView) (out : SinkView) (e : End) → ((words' : List (List ℕ)) (command' : Command (List ℕ)) → Asks words' opened.blocks command' → command'.beginning ≡ command.beginning → Refused words' opened after files files' out e)
+      → Refused words before after files files' out e
+  refused_at_origin files' out e why =
+      refused_before before opened unwritten.blocks unwritten.reading unwritten.later words after files files' out e
+      (why words command (subst (λ n. Asks words n command) (sym unwritten.blocks) asks) refl)
 
-pub on_ok : {T E : Type 0} (r : Result T E) (P : Type 0) → is_err r ≡ false → OnOk r P → P
-on_ok (Ok x) P is p = p
-on_ok (Err e) P is p = absurd (let wrong : true ≡ false = is in cc)
-
-module _ (words : List (List ℕ)) (before opened after : DiskView) (files : FilesView) (command : Asked) (asks : Asks words before.blocks command)
-    (blocks : opened.blocks ≡ before.blocks) (reading : opened.reading ≡ before.reading) (faults : before.faults ≤ opened.faults) where
-  pub refused_at_origin : (files' : FilesView) (out : SinkView) (e : End) → (Asks words opened.blocks command → Refused words opened after files files' out e) → Refused words before after files files' out e
-  refused_at_origin files' out e why = refused_before before opened blocks reading faults words after files files' out e (why (asks_opened before opened blocks reading faults words command asks))
-
-  pub refused_at_count : (files' : FilesView) (out : SinkView) (o : Origin) (count : ℕ) → IsBegun command.beginning opened files o → count ≡ out.count → (IsWithin out o.parts.frame.out → ⊥)
-      → Refused words before after files files' out (SinkStrange count o.parts.frame.out.from o.parts.frame.out.mark)
-  refused_at_count files' out o count begun is outside = by_count words before after files files' out command o count asks (begun_before before opened blocks reading faults command.beginning files o begun) is outside
-
-  pub starts : (out : SinkView) (o : Origin) → IsBegun command.beginning opened files o → IsWithin out o.parts.frame.out → IsStarted words before files out command o
-  starts out o begun within =
-      let first = begun_before before opened blocks reading faults command.beginning files o begun in
-      record { begins = can_begin words before files command o asks first; origin = first.origin; within = within }
+  pub starts : (o : Origin) → IsBegun command.beginning opened files o → CanBegin words before files command (group_of o.parts) o.epoch
+  starts o begun = can_begin words before files command o asks (begun_before before opened unwritten.blocks unwritten.reading unwritten.later command.beginning files o begun)

@@ -1,41 +1,20 @@
 -- Why a part of a command's start was refused: its disk's slots, its manifest and its image.
-use Rattle.std.specs.Prelude.{◌≡◌, ◌≤◌, ℕ, ⊤, List, Some, None, length}
 use Rattle.std.specs.Option.{ForSome}
 use Rattle.dev_traits.specs.Counts.{Rose}
 use Rattle.dev_traits.specs.Disk.{DiskView}
-use Rattle.dev_traits.specs.Outside.{FilesView}
 use Rattle.restore_group.specs.Outcome.{IsOpenAt}
 use Rattle.restore_group.specs.declared.restoring.Refused.{Refused}
 use Rattle.restore_group.specs.declared.restoring.Refused.TheVariants as restored
-use Rattle.aurora_top.specs.Manifest.{NamesImage}
-use Rattle.aurora_top.specs.declared.end.End.{End}
-use Rattle.aurora_top.specs.declared.end.End.TheVariants as ends
-use Rattle.aurora_top.specs.declared.manifest.LoadRefused.{LoadRefused}
-use Rattle.aurora_top.specs.declared.manifest.LoadRefused.TheVariants as loads
+use Rattle.command_words.specs.declared.end.End.{End}
+use Rattle.command_words.specs.declared.end.End.TheVariants as ends
+use Rattle.group_boot.specs.declared.manifest.LoadRefused.{LoadRefused}
+use Rattle.group_boot.specs.declared.manifest.LoadRefused.TheVariants as loads
 use Rattle.aurora_top.specs.declared.opening.OpenRefused.{OpenRefused}
 use Rattle.aurora_top.specs.declared.opening.OpenRefused.TheVariants as opens
 
 abbrev pub RefusedByDisk : DiskView → DiskView → OpenRefused → Type 0
 RefusedByDisk before after (opens.Occupied epoch) = ForSome before.reading (λ r. IsOpenAt r epoch)
 RefusedByDisk before after opens.DiskFault = Rose before.faults after.faults
-
-abbrev pub RefusedByFiles : List ℕ → FilesView → FilesView → LoadRefused → Type 0
-RefusedByFiles word before after loads.NotBuilt = ForSome before.contents (λ held. (image : List ℕ) → NamesImage held word image → ⊥)
-RefusedByFiles word before after loads.FilesFault = Rose before.faults after.faults
-RefusedByFiles word before after loads.NoMemory = ⊤
-
--- why no file was read
-abbrev pub NoFile : List ℕ → FilesView → FilesView → LoadRefused → Type 0
-NoFile name before after loads.NotBuilt = ForSome before.contents (λ held. held name ≡ None)
-NoFile name before after loads.FilesFault = Rose before.faults after.faults
-NoFile name before after loads.NoMemory = ⊤
-
--- why no image was read
-abbrev pub NoImage : List ℕ → FilesView → FilesView → LoadRefused → Type 0
-NoImage name before after loads.NotBuilt =
-    ForSome before.contents (λ held. (image : List ℕ) → held name ≡ Some image → (1 ≤ length image) × (length image ≤ 16777216) → ⊥)
-NoImage name before after loads.FilesFault = Rose before.faults after.faults
-NoImage name before after loads.NoMemory = ⊤
 
 -- the end of a command whose part was refused so
 abbrev pub end_opening : OpenRefused → End

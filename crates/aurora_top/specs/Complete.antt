@@ -7,12 +7,14 @@ use Rattle.dev_traits.specs.Outside.{FilesView, SinkView}
 use Rattle.group_defs.specs.Group.{Group}
 use Rattle.ckpt_chain.specs.Slot.{newest}
 use Rattle.ckpt_records.specs.Holds.{Holds}
-use Rattle.solo_engine.specs.Origin.{IsUnworn, IsWithin}
+use Rattle.ckpt_records.specs.Origin.{IsUnworn, IsWithin}
 use Rattle.aurora_top.specs.Beginnings.{Asks}
-use Rattle.aurora_top.specs.Manifest.{NamesImage}
-use Rattle.aurora_top.specs.Words.{Asked, Beginning, new, held}
-use Rattle.aurora_top.specs.declared.end.End.{End}
-use Rattle.aurora_top.specs.declared.end.End.TheVariants.{Done, Stuck, Spent, DiskFull, NoMemory}
+use Rattle.group_boot.specs.Manifest.{NamesImage}
+use Rattle.command_words.specs.declared.words.Command.{Command}
+use Rattle.command_words.specs.declared.words.Beginning.{Beginning}
+use Rattle.command_words.specs.declared.words.Beginning.TheVariants.{Manifest, Checkpoint}
+use Rattle.command_words.specs.declared.end.End.{End}
+use Rattle.command_words.specs.declared.end.End.TheVariants.{Done, Stuck, Spent, DiskFull, NoMemory}
 
 -- The image holds a group that isn't worn, and the output's count is within its bounds.
 pub record IsReady (image : List ℕ) (out : SinkView) : Type 0 where
@@ -23,14 +25,14 @@ pub record IsReady (image : List ℕ) (out : SinkView) : Type 0 where
   pub within : IsWithin out start.frame.out
 
 -- What a command needs is told: for a manifest no open slot, its image and an empty output; else a group that is ready.
-abbrev pub IsGiven : Beginning → DiskView → FilesView → SinkView → Type 0
-IsGiven (new manifest) disk files out =
+abbrev pub IsGiven : Beginning (List ℕ) → DiskView → FilesView → SinkView → Type 0
+IsGiven (Manifest manifest) disk files out =
     MatchOption disk.reading ⊥ (λ r. newest r ≡ None) × MatchOption files.contents ⊥ (λ contents. (image : List ℕ) × NamesImage contents manifest image) × (out.count ≡ 0)
-IsGiven held disk files out = MatchOption disk.reading ⊥ (λ r. IsReady r out)
+IsGiven Checkpoint disk files out = MatchOption disk.reading ⊥ (λ r. IsReady r out)
 
 -- ... and no device's count of faults rose
 pub record IsUnhindered (words : List (List ℕ)) (disk disk' : DiskView) (files files' : FilesView) (out out' : SinkView) : Type 0 where
-  pub command : Asked
+  pub command : Command (List ℕ)
   pub asks : Asks words disk.blocks command
   pub given : IsGiven command.beginning disk files out
   pub disk_works : Rose disk.faults disk'.faults → ⊥

@@ -1,15 +1,10 @@
-pub mod End
-pub mod Say
-pub mod Options
-pub mod Words
-pub mod Said
-pub mod Spelling
-pub mod Manifest
+-- What the public clauses say.
+pub mod Ending
 pub mod Beginnings
-pub mod Causes
 pub mod Refusals
-pub mod Boot
 pub mod Opening
-pub mod Starting
 pub mod Answers
 pub mod Complete
+-- What only private functions say.
+pub mod Causes
+pub mod Starting

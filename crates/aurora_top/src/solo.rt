@@ -1,32 +1,24 @@
 //! A run on one thread.
-ghost use Rattle.std.specs.Prelude.{◌≡◌, ◌≤◌, ◌⊎◌, ◌↔◌, None};
-ghost use Rattle.group_defs.specs.Trace.{turns_in};
-ghost use Rattle.solo_engine.specs.Safe.{last_epoch};
-ghost use Rattle.aurora_top.specs.Answers.{HasAnswered, WasRefused, WasRun};
+ghost use Rattle.std.specs.Prelude.{◌≡◌, ◌≤◌, ◌⊎◌, ◌↔◌, [], None};
+ghost use Rattle.run_defs.specs.Trace.{turns_in};
+ghost use Rattle.sls_core.specs.Safe.{last_epoch};
+ghost use Rattle.aurora_top.specs.Answers.{WasRefused, WasRun};
 ghost use Rattle.aurora_top.specs.Complete.{IsOfRun, IsUnhindered};
-ghost use Rattle.aurora_top.specs.End.{end_for as end_named};
-ghost use Rattle.aurora_top.specs.Opening.{IsBetween};
-ghost use Rattle.aurora_top.specs.Say.{HasSaid};
-ghost use Rattle.aurora_top.specs.Words.{command_of_words};
+ghost use Rattle.aurora_top.specs.Ending.{end_for as end_named};
+ghost use Rattle.command_words.specs.Say.{HasSaid};
+ghost use Rattle.command_words.specs.Words.{command_of_words};
 
-use crate::end::{End, Ending, end_for};
-use crate::say::say_line;
-use crate::starting::prepare;
+use crate::ending::{Ending, end_for};
+use crate::opening::open;
+use crate::starting::begin;
+use ckpt_records::one_held;
+use command_words::{End, say_line};
 use dev_traits::{Disk, Files, Sink, Word};
-use group_defs::{AckMark, Mark};
 use lists::Seq;
-use solo_engine::{Run, run_solo};
+use run_defs::{AckMark, Mark};
+use sls_core::Run;
+use solo_engine::run_solo;
 use std::alloc::Global;
-
-/// What a call came to: why it ended, the epoch that it began with, what it logged, and the devices that it had.
-struct Outcome<D, O> {
-    end: End,
-    origin_epoch: u64,
-    trace: Seq<Mark>,
-    acks: Seq<AckMark>,
-    disk: D,
-    out: O,
-}
 
 fn count_turns(trace: &[Mark]) -> u64
     ensures { result ≡ turns_in trace.now }
@@ -48,65 +40,110 @@ fn last_acked(origin_epoch: u64, acks: &[AckMark]) -> u64
     }
 }
 
-/// What a run from an origin of this epoch came to.
-fn outcome_of<D, O: Sink>(origin_epoch: u64, run: Run<D, O>) -> Outcome<D, O>
-    ensures end { result.end ≡ end_named run.answer (last_epoch origin_epoch run.acks) (turns_in run.trace) (O.view run.out).count }
-    ensures origin { result.origin_epoch ≡ origin_epoch }
-    ensures trace { result.trace ≡ run.trace }
-    ensures acks { result.acks ≡ run.acks }
-    ensures disk { result.disk ≡ run.disk }
-    ensures out { result.out ≡ run.out }
+/// The end of a run from an origin of this epoch.
+fn end_of<D, O: Sink>(origin_epoch: u64, run: &Run<D, O>) -> End
+    ensures { result ≡ end_named run.now.answer (last_epoch origin_epoch run.now.acks) (turns_in run.now.trace) (O.view run.now.out).count }
 {
+    let epoch = last_acked(origin_epoch, run.acks.as_slice());
+    let turns = count_turns(run.trace.as_slice());
+    end_for(run.answer, epoch, turns, run.out.taken())
+}
+
+/// Says the end of a command that was refused.
+fn refuse<F: Files, D: Disk, O: Sink, S: Sink>(
+    alloc: Global,
+    end: End,
+    opened_at: u64,
+    files: F,
+    disk: D,
+    out: O,
+    say: S,
+) -> Ending<F, D, O, S>
+    ensures say { HasSaid result.end result.status (S.view say) (S.view result.say) }
+    ensures told { result ≡ record { status = result.status; end = end; origin_epoch = 0; opened_at = opened_at; trace = []; acks = []; files = files; disk = disk; out = out; say = result.say } }
+{
+    let mut say = say;
+    let status = say_line(&end, &mut say);
+    Ending {
+        status,
+        end,
+        origin_epoch: 0,
+        opened_at,
+        trace: Seq::new(alloc),
+        acks: Seq::new(alloc),
+        files,
+        disk,
+        out,
+        say,
+    }
+}
+
+/// Says the end of a run from an origin of this epoch.
+fn finish<F: Files, D: Disk, O: Sink, S: Sink>(
+    origin_epoch: u64,
+    opened_at: u64,
+    run: Run<D, O>,
+    files: F,
+    say: S,
+) -> Ending<F, D, O, S>
+    ensures say { HasSaid result.end result.status (S.view say) (S.view result.say) }
+    ensures told { result ≡ record { status = result.status; end = end_named run.answer (last_epoch origin_epoch run.acks) (turns_in run.trace) (O.view run.out).count; origin_epoch = origin_epoch; opened_at = opened_at; trace = run.trace; acks = run.acks; files = files; disk = run.disk; out = run.out; say = result.say } }
+{
+    let mut say = say;
+    let end = end_of(origin_epoch, &run);
+    let status = say_line(&end, &mut say);
     let Run {
-        answer,
+        answer: _,
         trace,
         acks,
         disk,
         out,
     } = run;
-    let epoch = last_acked(origin_epoch, acks.as_slice());
-    let turns = count_turns(trace.as_slice());
-    let end = end_for(answer, epoch, turns, out.taken());
-    Outcome {
+    Ending {
+        status,
         end,
         origin_epoch,
+        opened_at,
         trace,
         acks,
+        files,
         disk,
         out,
+        say,
     }
 }
 
-/// All of a call but its line.
-fn run<F: Files, D: Disk, O: Sink>(
+/// Runs the command that the words spell, or refuses it.
+fn run_command<F: Files, D: Disk, O: Sink, S: Sink>(
     alloc: Global,
     words: &[Word],
-    files: &mut F,
+    files: F,
     disk: D,
     out: O,
-    opened_at: &mut Option<u64>,
-) -> Outcome<D, O>
-    requires { opened_at.old ≡ None }
-    ensures between { IsBetween opened_at.new (D.view disk) (D.view result.disk) }
-    ensures files { ((F.view files.new).contents ≡ (F.view files.old).contents) × ((F.view files.old).faults ≤ (F.view files.new).faults) }
-    ensures answer { HasAnswered words.now (D.view disk) (D.view result.disk) (F.view files.old) (F.view files.new) (O.view out) (O.view result.out) opened_at.new result.origin_epoch result.trace result.acks result.end }
+    say: S,
+) -> Ending<F, D, O, S>
+    ensures say { HasSaid result.end result.status (S.view say) (S.view result.say) }
+    ensures answer { WasRefused words.now (D.view disk) (D.view result.disk) (F.view files) (F.view result.files) (O.view out) (O.view result.out) result.opened_at result.origin_epoch result.trace result.acks result.end
+        ⊎ WasRun words.now (D.view disk) (D.view result.disk) (F.view files) (O.view out) (O.view result.out) result.opened_at result.origin_epoch result.trace result.acks result.end }
+    ensures files { ((F.view result.files).contents ≡ (F.view files).contents) × ((F.view files).faults ≤ (F.view result.files).faults) }
+    ensures opened { ((D.view disk).moment ≤ result.opened_at) × (result.opened_at ≤ (D.view result.disk).moment) }
 {
+    let mut files = files;
     let mut disk = disk;
-    match prepare(alloc, words, files, &mut disk, &out, opened_at) {
-        Ok(start) => {
-            let origin_epoch = start.origin.epoch;
-            let run = run_solo(alloc, start.origin, start.limits, disk, out);
-            outcome_of(origin_epoch, run)
+    let (command, opened_at) = match open(words, &mut disk) {
+        Ok(opened) => opened,
+        Err(end) => {
+            let opened_at = disk.moment();
+            return refuse(alloc, end, opened_at, files, disk, out, say);
         }
-        Err(end) => Outcome {
-            end,
-            origin_epoch: 0,
-            trace: Seq::new(alloc),
-            acks: Seq::new(alloc),
-            disk,
-            out,
-        },
-    }
+    };
+    let origin = match begin(alloc, command.beginning, &mut files, &mut disk, &out) {
+        Ok(origin) => origin,
+        Err(end) => return refuse(alloc, end, opened_at, files, disk, out, say),
+    };
+    let origin_epoch = origin.epoch;
+    let run = run_solo(alloc, origin, command.limits, disk, out);
+    finish(origin_epoch, opened_at, run, files, say)
 }
 
 /// Runs a group on one thread, by the words of a command (`command_of`): from a manifest's first group on a disk without
@@ -133,29 +170,7 @@ pub fn aurora_solo<F: Files, D: Disk, O: Sink, S: Sink>(
     // Where the command has what it needs and no device fails, the run ends by itself, or for want of blocks or memory.
     ensures complete { IsUnhindered words.now (D.view disk) (D.view result.disk) (F.view files) (F.view result.files) (O.view out) (O.view result.out) → IsOfRun result.end }
 {
-    let mut files = files;
-    let mut say = say;
-    let mut opened_at = None;
-    let Outcome {
-        end,
-        origin_epoch,
-        trace,
-        acks,
-        disk,
-        out,
-    } = run(alloc, words, &mut files, disk, out, &mut opened_at);
-    let opened_at = opened_at.unwrap_or(disk.moment());
-    let status = say_line(&end, &mut say);
-    Ending {
-        status,
-        end,
-        origin_epoch,
-        opened_at,
-        trace,
-        acks,
-        files,
-        disk,
-        out,
-        say,
-    }
+    // an image holds one group
+    one_held();
+    run_command(alloc, words, files, disk, out, say)
 }

@@ -4,3 +4,4 @@ pub mod Loop
 pub mod Members
 pub mod PartLaws
 pub mod Unique
+pub mod Ordered

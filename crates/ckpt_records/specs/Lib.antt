@@ -1,7 +1,14 @@
+-- What the public clauses say.
 pub mod Codec
-pub mod Gives
 pub mod Fits
 pub mod Spelling
-pub mod Reading
 pub mod Spells
 pub mod Holds
+pub mod Parts
+pub mod Origin
+pub mod Newest
+pub mod Cost
+pub mod Pages
+-- What only private functions say.
+pub mod Gives
+pub mod Reading

@@ -5,6 +5,8 @@
 //! types of groups, the chain of meta blocks and the layers of pages; above, whatever restores or commits a group.
 #![tactic(auto)]
 
+#[cfg(test)]
+mod bounds_tests;
 mod counted;
 mod error;
 mod field;
@@ -21,7 +23,7 @@ mod tests;
 
 pub use error::ReadError;
 pub use laws::{kept_is_held, one_held, written_is_held};
-pub use meta::{Meta, PagePlace};
+pub use meta::{Meta, Page, PagePlace};
 pub use numbers::num_at;
-pub use origin::{Ckpt, Frozen, Origin, Parts, Placement};
+pub use origin::{Ckpt, Frozen, Origin, Parts, Placement, has_size, is_unworn, is_within};
 pub use record::{is_in_form, read_meta, write_meta};

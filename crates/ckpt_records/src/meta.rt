@@ -16,3 +16,11 @@ pub struct Meta {
     pub frame: Frame,
     pub pages: Seq<PagePlace>,
 }
+
+/// A page that a checkpoint writes: 4,096 bytes of an object.
+#[derive(Debug, Drop)]
+pub struct Page {
+    pub object: u64,
+    pub page: u64,
+    pub bytes: Seq<u8>,
+}

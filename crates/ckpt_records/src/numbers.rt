@@ -1,8 +1,8 @@
 ghost use Rattle.std.specs.Prelude.{◌≡◌, ◌<◌, ◌^◌, ◌+◌, ◌++◌, OnOk, length, take, drop, nat_le, if◌then◌else◌, Some, None};
 ghost use Rattle.std.specs.Int.{w64, from_le_bytes};
 ghost use Rattle.ckpt_records.specs.Gives.{Gives};
-ghost use Rattle.ckpt_records.specs.Codec.{number_at, small_at, text_at, number, text};
-ghost use Rattle.ckpt_records.specs.Fits.{RegsFit};
+ghost use Rattle.ckpt_records.specs.Codec.{number_from, small_at, text_at, number, text};
+ghost use Rattle.ckpt_records.specs.Fits.{RegsInRange};
 ghost use Rattle.ckpt_records.specs.Reading.{flag_at, regs_at};
 ghost use Rattle.ckpt_records.specs.Spelling.{flag};
 ghost use Rattle.std.specs.List.{flat_map};
@@ -25,9 +25,9 @@ pub fn num_at(bytes: &[u8], at: usize) -> Option<u64>
     ]))
 }
 
-#[tactic(auto, unfolding(crate::specs::Codec::number_at))]
+#[tactic(auto, unfolding(crate::specs::Codec::number_from))]
 pub fn u64_at(bytes: &[u8]) -> Result<(u64, &[u8]), ReadError>
-    ensures { Gives (λ x. (x.0, x.1.now)) result (number_at bytes.now) }
+    ensures { Gives (λ x. (x.0, x.1.now)) result (number_from bytes.now) }
 {
     if bytes.len() < 8 {
         return Err(ReadError::Nothing);
@@ -136,7 +136,7 @@ pub fn regs_of(bytes: &[u8]) -> Result<([u64; 31], &[u8]), ReadError>
 
 pub fn put_regs(out: &mut Vec<u8>, regs: &[u64; 31]) -> Result<(), AllocError>
     ensures bytes { OnOk result (out.new.items ≡ out.old.items ++ flat_map number regs.now) }
-    ensures fits { OnOk result (RegsFit regs.now) }
+    ensures fits { OnOk result (RegsInRange regs.now) }
 {
     for reg in regs {
         put_u64(out, *reg)?;

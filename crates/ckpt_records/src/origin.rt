@@ -1,6 +1,11 @@
+ghost use Rattle.std.specs.Prelude.{◌≡◌, ◌↔◌, IsTrue};
+ghost use Rattle.group_defs.specs.Output.{last_position};
+ghost use Rattle.ckpt_records.specs.Origin.{HasSize, IsUnworn, IsWithin};
+
 use crate::meta::PagePlace;
 use ckpt_chain::Slot;
-use group_defs::Frame;
+use dev_traits::Sink;
+use group_defs::{Frame, Out};
 use lists::Seq;
 use mem_objects::Layer;
 use std::sync::Arc;
@@ -56,4 +61,37 @@ pub struct Origin {
     pub placement: Placement,
     /// The gate bytes of slots A and B: 1 where the slot may be open.
     pub gates: [u8; 2],
+}
+
+/// The greatest number that leaves room for a run.
+const MOST: u64 = 1 << 62;
+
+/// Whether a disk may have so many blocks.
+pub fn has_size(blocks: u64) -> bool
+    ensures { IsTrue result ↔ HasSize blocks }
+{
+    16 <= blocks && blocks <= 1_048_576
+}
+
+/// Whether each number of the origin leaves room for a run. The mark of its output is the last position.
+pub fn is_unworn(origin: &Origin) -> bool
+    requires { origin.now.parts.frame.out.mark ≡ last_position origin.now.parts.frame.out }
+    ensures { IsTrue result ↔ IsUnworn origin.now.epoch origin.now.parts.frame }
+{
+    let next = &origin.parts.frame.next;
+    origin.epoch <= MOST
+        && origin.parts.frame.out.mark <= MOST
+        && next.object <= MOST
+        && next.descr <= MOST
+        && next.pipe <= MOST
+        && next.pair <= MOST
+}
+
+/// Whether a sink's count is a position of an output, whose mark is the last one.
+pub fn is_within<S: Sink>(sink: &S, out: &Out) -> bool
+    requires { out.now.mark ≡ last_position out.now }
+    ensures { IsTrue result ↔ IsWithin (S.view sink.now) out.now }
+{
+    let count = sink.taken();
+    out.from <= count && count <= out.mark
 }

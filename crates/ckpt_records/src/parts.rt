@@ -1,6 +1,5 @@
 ghost use Rattle.std.specs.Prelude.{◌≡◌, ◌<◌, ◌++◌, ◌^◌, OnOk};
 ghost use Rattle.std.specs.List.{flat_map};
-ghost use Rattle.ckpt_records.specs.Gives.{Gives};
 ghost use Rattle.ckpt_records.specs.Codec as codec;
 ghost use Rattle.ckpt_records.specs.Fits as fits;
 ghost use Rattle.ckpt_records.specs.Reading as reading;
@@ -23,11 +22,11 @@ use std::alloc::{AllocError, Global};
 impl Field for Mapping {
     ghost spells = { spelling.mapping };
 
-    ghost Fits = { fits.MappingFits };
+    ghost Fits = { fits.MappingInRange };
 
-    ghost reads = { reading.mapping_at };
+    ghost reads = { reading.mapping_from };
 
-    #[tactic(auto, unfolding(crate::specs::Reading::mapping_at))]
+    #[tactic(auto, unfolding(crate::specs::Reading::mapping_from))]
     fn read(_alloc: Global, bytes: &[u8]) -> Result<(Mapping, &[u8]), ReadError> {
         let (start, rest) = u64_at(bytes)?;
         let (pages, rest) = u64_at(rest)?;
@@ -59,7 +58,7 @@ impl Field for Mapping {
 impl Field for Next {
     ghost spells = { spelling.next };
 
-    ghost Fits = { fits.NextFits };
+    ghost Fits = { fits.NextInRange };
 
     ghost reads = { reading.next_at };
 
@@ -122,7 +121,7 @@ impl Field for Out {
 impl Field for ObjectRec {
     ghost spells = { spelling.object_rec };
 
-    ghost Fits = { fits.ObjectFits };
+    ghost Fits = { fits.ObjectInRange };
 
     ghost reads = { reading.object_at };
 
@@ -142,7 +141,7 @@ impl Field for ObjectRec {
 impl Field for FileRec {
     ghost spells = { spelling.file_rec };
 
-    ghost Fits = { fits.FileFits };
+    ghost Fits = { fits.FileInRange };
 
     ghost reads = { reading.file_at };
 
@@ -169,7 +168,7 @@ impl Field for FileRec {
 impl Field for Pipe {
     ghost spells = { spelling.pipe };
 
-    ghost Fits = { fits.PipeFits };
+    ghost Fits = { fits.PipeInRange };
 
     ghost reads = { reading.pipe_at };
 
@@ -206,7 +205,7 @@ impl Field for Seq<u8> {
 impl Field for Pair {
     ghost spells = { spelling.pair };
 
-    ghost Fits = { fits.PairFits };
+    ghost Fits = { fits.PairInRange };
 
     ghost reads = { reading.pair_at };
 
@@ -268,9 +267,9 @@ impl Field for Open {
 
     ghost Fits = { fits.OpenRange };
 
-    ghost reads = { reading.open_at };
+    ghost reads = { reading.open_from };
 
-    #[tactic(auto, unfolding(crate::specs::Reading::open_at))]
+    #[tactic(auto, unfolding(crate::specs::Reading::open_from))]
     fn read(alloc: Global, bytes: &[u8]) -> Result<(Open, &[u8]), ReadError> {
         let (number, rest) = u64_at(bytes)?;
         let (kind, rest) = OpenKind::read(alloc, rest)?;
@@ -296,7 +295,7 @@ impl Field for Open {
 impl Field for (u32, u64) {
     ghost spells = { spelling.descriptor };
 
-    ghost Fits = { fits.DescriptorFits };
+    ghost Fits = { fits.DescriptorInRange };
 
     ghost reads = { reading.descriptor_at };
 
@@ -316,7 +315,7 @@ impl Field for (u32, u64) {
 impl Field for ProcState {
     ghost spells = { spelling.state };
 
-    ghost Fits = { fits.StateFits };
+    ghost Fits = { fits.StateInRange };
 
     ghost reads = { reading.state_at };
 
@@ -347,7 +346,7 @@ impl Field for ProcState {
 impl Field for Proc {
     ghost spells = { spelling.proc };
 
-    ghost Fits = { fits.ProcFits };
+    ghost Fits = { fits.ProcInRange };
 
     ghost reads = { reading.proc_at };
 
@@ -390,9 +389,9 @@ impl Field for PagePlace {
 
     ghost Fits = { fits.PageFits };
 
-    ghost reads = { reading.page_at };
+    ghost reads = { reading.page_from };
 
-    #[tactic(auto, unfolding(crate::specs::Reading::page_at))]
+    #[tactic(auto, unfolding(crate::specs::Reading::page_from))]
     fn read(_alloc: Global, bytes: &[u8]) -> Result<(PagePlace, &[u8]), ReadError> {
         let (object, rest) = u64_at(bytes)?;
         let (page, rest) = u64_at(rest)?;
@@ -415,7 +414,7 @@ impl Field for PagePlace {
 // The fields up to the registers.
 fn put_proc_front(out: &mut Vec<u8>, p: &Proc) -> Result<(), AllocError>
     ensures bytes { OnOk result (out.new.items ≡ out.old.items ++ (codec.number p.now.pid ++ (codec.number p.now.parent ++ (spelling.state p.now.state ++ (codec.number p.now.pc ++ flat_map codec.number p.now.regs))))) }
-    ensures fits { OnOk result ((p.now.pid < 2 ^ 32) × ((p.now.parent < 2 ^ 32) × (fits.StateFits p.now.state × (fits.Is64 p.now.pc × fits.RegsFit p.now.regs)))) }
+    ensures fits { OnOk result ((p.now.pid < 2 ^ 32) × ((p.now.parent < 2 ^ 32) × (fits.StateInRange p.now.state × (fits.Is64 p.now.pc × fits.RegsInRange p.now.regs)))) }
 {
     put_u32(out, p.pid)?;
     put_u32(out, p.parent)?;

@@ -7,7 +7,7 @@ ghost use Rattle.ckpt_records.specs.Gives.{Gives};
 ghost use Rattle.ckpt_records.specs.Reading.{record_at, parts_at, head_at, parts_of as frame_parts};
 ghost use Rattle.ckpt_records.specs.Spelling.{record_bytes, magic, front, middle};
 ghost use Rattle.ckpt_records.specs.Fits.{RecordRange, FrontRange, MiddleRange, HasEnd, IsInForm};
-ghost use Rattle.ckpt_records.specs.Spells.{Spells, IsOrderly, IsPlaced, IsPageOf, PagesRise};
+ghost use Rattle.ckpt_records.specs.Spells.{Spells, IsOrderly, IsPagePlace, IsPageOf, PagesRise};
 
 use crate::counted::{list_of, put_items, put_list};
 use crate::error::ReadError;
@@ -81,9 +81,9 @@ fn is_page_of(frame: &Frame, p: &PagePlace) -> bool
         .any(|o| o.number == p.object && p.page < o.pages)
 }
 
-#[tactic(auto, unfolding(crate::specs::Spells::IsPlaced))]
+#[tactic(auto, unfolding(crate::specs::Spells::IsPagePlace))]
 fn is_placed(frame: &Frame, blocks: u64, p: &PagePlace) -> bool
-    ensures { IsTrue result ↔ IsPlaced frame.now blocks p.now }
+    ensures { IsTrue result ↔ IsPagePlace frame.now blocks p.now }
 {
     is_page_of(frame, p) && p.block >= 2 && p.block < blocks
 }

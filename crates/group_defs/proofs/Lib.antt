@@ -1,11 +1,4 @@
-pub mod Runs
 pub mod StepLaws
-pub mod OutputLaws
-pub mod TraceLaws
 pub mod Seen
-pub mod SoloLaws
-pub mod SoloGoesOn
-pub mod PageLaws
 pub mod Inside
 pub mod Others
-pub mod MovedLaws

@@ -16,10 +16,4 @@ pub mod Output
 pub mod Write
 pub mod Exit
 pub mod Step
-pub mod Turns
-pub mod Trace
-pub mod Legal
-pub mod Ends
-pub mod Touched
-pub mod Solo
-pub mod Smallest
+pub mod Pages

@@ -1,12 +1,13 @@
 //! Groups of processes: their types, the test of a valid frame, and the definitions by which
 //! every layer above says what it does.
 //!
-//! It promises that `frame_valid` answers the rules of valid groups, and shows the definitions by
-//! laws and by the two smallest runs. Below stand the instructions and the tables, whose entries a group is made of, above everything that
-//! keeps, runs or stores a group.
+//! It promises that `frame_valid` answers the rules of valid groups, and shows the definitions of a step by laws. Below stand
+//! the instructions and the tables, whose entries a group is made of; above stands everything that keeps, runs or stores a
+//! group.
 #![tactic(auto)]
 
 mod built;
+pub mod calls;
 mod descriptions;
 mod ends;
 mod frame;
@@ -17,7 +18,6 @@ mod numbers;
 mod objects;
 mod order;
 mod processes;
-mod run;
 mod sizes;
 mod user_mem;
 mod valid;
@@ -28,6 +28,5 @@ pub use frame::{Frame, Next, ObjectRec, Out, Proc, ProcState};
 pub use group_files::FileRec;
 pub use order::lists_rise;
 pub use pipes_socks::{Pair, Pipe};
-pub use run::{AckMark, Limits, Mark, RunEnd};
 pub use user_mem::{Fault, OutRefused, UserMem};
 pub use valid::frame_valid;

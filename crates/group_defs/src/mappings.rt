@@ -1,6 +1,6 @@
 ghost use Rattle.std.specs.Prelude.{◌≡◌, ◌↔◌, IsTrue, All};
 ghost use Rattle.address_maps.specs.Mappings as of_mappings;
-ghost use Rattle.group_defs.specs.Mappings.{IsPlaced, IsInside, MappingsValid};
+ghost use Rattle.group_defs.specs.Mappings.{IsUserMapping, IsInside, MappingsValid};
 ghost use Rattle.address_maps.specs.Mappings.{AreApart};
 
 use crate::frame::{ObjectRec, Proc};
@@ -12,9 +12,9 @@ fn end_of(m: &Mapping) -> u128
     u128::from(m.start) + 4_096 * u128::from(m.pages)
 }
 
-#[tactic(auto, unfolding(crate::specs::Mappings::IsPlaced))]
+#[tactic(auto, unfolding(crate::specs::Mappings::IsUserMapping))]
 fn is_placed(m: &Mapping) -> bool
-    ensures { IsTrue result ↔ IsPlaced m.now }
+    ensures { IsTrue result ↔ IsUserMapping m.now }
 {
     m.start % 4_096 == 0 && m.pages >= 1 && m.start >= 4_096 && end_of(m) <= 1 << 38 && m.prot <= 7
 }

@@ -1,5 +1,6 @@
 ghost use Rattle.std.specs.Prelude.{◌≡◌, ◌↔◌, ◌<◌, ◌≤◌, ◌^◌, IsTrue, All, length};
-ghost use Rattle.group_defs.specs.Numbers.{AreBytes, RegsFit, NextFits, MessagesAreBytes, NumbersFit, NextIsAbove, NextValid};
+ghost use Rattle.group_defs.specs.Numbers.{RegsFit, NextFits, MessagesAreBytes, NumbersFit, NextIsAbove, NextValid};
+ghost use Rattle.lists.specs.Bytes.{AreBytes};
 
 use crate::frame::{Frame, Next, Proc};
 use pipes_socks::Pair;
@@ -7,7 +8,7 @@ use pipes_socks::Pair;
 // The numbers of a frame fit their types because they have these types. The functions down to
 // `numbers_fit` always answer true: they read each number, and what is read is known to fit.
 
-#[tactic(auto, unfolding(crate::specs::Numbers::AreBytes))]
+#[tactic(auto, unfolding(lists::specs::Bytes::AreBytes))]
 fn are_bytes(_bytes: &[u8]) -> bool
     ensures { IsTrue result ↔ AreBytes _bytes.now }
 {

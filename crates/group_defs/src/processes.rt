@@ -1,6 +1,6 @@
 ghost use Rattle.std.specs.Prelude.{◌≡◌, ◌↔◌, IsTrue, All};
 ghost use Rattle.group_defs.specs.Group as group;
-ghost use Rattle.group_defs.specs.Processes.{HasParent, BreakValid, RunningValid, IsWaitStatus, IsCleared, EndedValid, StateValid, ProcValid};
+ghost use Rattle.group_defs.specs.Processes.{HasParent, BreakValid, RunningValid, IsWaitStatus, IsCleared, EndedValid, ProcValid};
 
 use crate::frame::{Proc, ProcState};
 

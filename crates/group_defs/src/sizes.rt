@@ -1,6 +1,7 @@
 ghost use Rattle.std.specs.Prelude.{◌≡◌, ◌↔◌, ◌<◌, ◌≤◌, IsTrue, All, length, sum_by};
 ghost use Rattle.group_defs.specs.Objects as of_objects;
-ghost use Rattle.group_defs.specs.Sizes.{ProcFits, QueueFits, PairFits, MemoryFits, WithinLimits};
+ghost use Rattle.group_defs.specs.Sizes.{ProcFits, MemoryWithinLimits, WithinLimits};
+ghost use Rattle.pipes_socks.specs.Pairs.{QueueFits, PairFits};
 ghost use Rattle.group_files.specs.Names.{IsName};
 ghost use Rattle.group_files.specs.Files.{FileFits};
 
@@ -31,14 +32,14 @@ fn file_fits(file: &FileRec) -> bool
     is_name(file.name.as_slice()) && file.length <= 1_048_576
 }
 
-#[tactic(auto, unfolding(crate::specs::Sizes::QueueFits))]
+#[tactic(auto, unfolding(pipes_socks::specs::Pairs::QueueFits))]
 fn queue_fits(messages: &[Seq<u8>]) -> bool
     ensures { IsTrue result ↔ QueueFits messages.now }
 {
     messages.len() <= 16 && messages.iter().all(|m| m.len() >= 1 && m.len() <= 4_096)
 }
 
-#[tactic(auto, unfolding(crate::specs::Sizes::PairFits))]
+#[tactic(auto, unfolding(pipes_socks::specs::Pairs::PairFits))]
 fn pair_fits(p: &Pair) -> bool
     ensures { IsTrue result ↔ PairFits p.now }
 {
@@ -73,9 +74,9 @@ fn memory_pages(f: &Frame) -> u128
     pages
 }
 
-#[tactic(auto, unfolding(crate::specs::Sizes::MemoryFits))]
+#[tactic(auto, unfolding(crate::specs::Sizes::MemoryWithinLimits))]
 fn memory_fits(f: &Frame) -> bool
-    ensures { IsTrue result ↔ MemoryFits f.now }
+    ensures { IsTrue result ↔ MemoryWithinLimits f.now }
 {
     memory_count(f) <= 4_096
         && memory_pages(f) <= 65_536
@@ -104,7 +105,7 @@ fn streams_fit(f: &Frame) -> bool
 }
 
 fn parts_fit(f: &Frame) -> bool
-    ensures { IsTrue result ↔ (All ProcFits f.now.procs × MemoryFits f.now × All FileFits f.now.files) }
+    ensures { IsTrue result ↔ (All ProcFits f.now.procs × MemoryWithinLimits f.now × All FileFits f.now.files) }
 {
     f.procs.as_slice().iter().all(|p| proc_fits(p))
         && memory_fits(f)

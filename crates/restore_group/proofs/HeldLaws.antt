@@ -5,7 +5,7 @@ use Rattle.std.specs.List.{All, AllByRecursion, list_all}
 use Rattle.std.proofs.lemmas.Bool.{false≢true}
 use Rattle.std.proofs.lemmas.List.Elements.{recursion_from_All}
 use Rattle.group_defs.specs.Group.{Group}
-use Rattle.group_defs.specs.Touched.{page_bytes, is_zero_page, nonzero_pages, all_pages}
+use Rattle.group_defs.specs.Pages.{page_bytes, is_zero_page, nonzero_pages, all_pages}
 use Rattle.group_defs.specs.declared.frame.Frame.{Frame}
 use Rattle.ckpt_chain.specs.Chain.{block, stream_at, Has, InDisk}
 use Rattle.ckpt_chain.specs.Slot.{newest}
@@ -14,20 +14,20 @@ use Rattle.ckpt_chain.specs.declared.slot.SlotBody.{SlotBody}
 use Rattle.ckpt_chain.specs.declared.stream.StreamRefused.{StreamRefused}
 use Rattle.ckpt_chain.specs.declared.stream.StreamRefused.TheVariants.{Broken}
 use Rattle.ckpt_chain.specs.declared.stream.StreamRefused.TheVariants as reasons
-use Rattle.ckpt_chain.specs.Gives.{FaultRose}
+use Rattle.ckpt_chain.specs.Refusals.{FaultRose}
 use Rattle.ckpt_records.proofs.Members.{in_map, from_filter, has_at}
 use Rattle.ckpt_records.proofs.PartLaws.{spells_once}
 use Rattle.ckpt_records.specs.declared.meta.PagePlace.{PagePlace}
 use Rattle.ckpt_records.specs.declared.origin.Origin.{Origin}
-use Rattle.ckpt_records.specs.Holds.{blocks_of, page_of, AreListed, HoldsAt, Holds, IsCheckpoint}
-use Rattle.ckpt_records.specs.Spells.{Spells, IsPlaced, IsOrderly}
+use Rattle.ckpt_records.specs.Holds.{block_count, listed_page, AreListed, HoldsAt, Holds, IsCheckpoint}
+use Rattle.ckpt_records.specs.Spells.{Spells, IsPagePlace, IsOrderly}
 use Rattle.mem_objects.specs.Pages.{Pages, IsZero}
 use Rattle.restore_group.specs.Layers.{AreLayersOf, layers_in, shared_out, NoneZero}
-use Rattle.restore_group.specs.Meta.{IsMeta, IsWhole}
+use Rattle.restore_group.specs.Meta.{IsMeta, IsWholeFrame}
 use Rattle.restore_group.specs.Outcome.{HoldsNothing, IsOpenAt, IsSound, IsOutcome, FaultIsCause}
 use Rattle.restore_group.specs.declared.restoring.Refused.{Refused}
 use Rattle.restore_group.specs.declared.restoring.Refused.TheVariants.{Damaged, DiskFault, NoMemory}
-use Rattle.restore_group.specs.Parts.{memory_of}
+use Rattle.ckpt_records.specs.Parts.{memory_of}
 use Rattle.restore_group.proofs.OwnLaws.{own_law}
 use Rattle.restore_group.proofs.PartsLaws.{parts_law, contents_law}
 
@@ -44,12 +44,12 @@ never_zero : (b : Bool) → not b ≡ true → b ≡ true → ⊥
 never_zero true said is = false≢true said
 never_zero false said is = false≢true is
 
-listed_not_zero : (image : List ℕ) (g : Group) (pages : List PagePlace) → AreListed image g pages → (p : PagePlace) → block image p.block ≡ page_bytes g.memory (page_of p) → Has p pages → IsZero (block image p.block) → ⊥
+listed_not_zero : (image : List ℕ) (g : Group) (pages : List PagePlace) → AreListed image g pages → (p : PagePlace) → block image p.block ≡ page_bytes g.memory (listed_page p) → Has p pages → IsZero (block image p.block) → ⊥
 unfolding IsZero nonzero_pages
 listed_not_zero image g pages listed p bytes has zero =
-    let there : Has (page_of p) (nonzero_pages g) = subst (λ (l : List (ℕ × ℕ)). Has (page_of p) l) listed.which (in_map page_of p pages has) in
-    let said = from_filter (λ page. not (is_zero_page g.memory page)) (page_of p) (all_pages g.frame) there in
-    never_zero (is_zero_page g.memory (page_of p)) said (zeros (page_bytes g.memory (page_of p)) (subst (λ (x : List ℕ). AllByRecursion (λ b. b ≡ 0) x) bytes zero))
+    let there : Has (listed_page p) (nonzero_pages g) = subst (λ (l : List (ℕ × ℕ)). Has (listed_page p) l) listed.which (in_map listed_page p pages has) in
+    let said = from_filter (λ page. not (is_zero_page g.memory page)) (listed_page p) (all_pages g.frame) there in
+    never_zero (is_zero_page g.memory (listed_page p)) said (zeros (page_bytes g.memory (listed_page p)) (subst (λ (x : List ℕ). AllByRecursion (λ b. b ≡ 0) x) bytes zero))
 
 none_zero : (image : List ℕ) (g : Group) (pages : List PagePlace) → AreListed image g pages → NoneZero image pages
 unfolding NoneZero
@@ -76,7 +76,7 @@ refused_cause reasons.NoMemory epoch before mid after le rose = tt
 
 -- ---- what an image whose newest slot has a body holds
 
-module _ (image : List ℕ) (count : ℕ) (size : blocks_of image ≡ count) (slot : Slot) (body : SlotBody) (opened : newest image ≡ Some (slot, body)) where
+module _ (image : List ℕ) (count : ℕ) (size : block_count image ≡ count) (slot : Slot) (body : SlotBody) (opened : newest image ≡ Some (slot, body)) where
   meta_held : (epoch : ℕ) (g : Group) (h : Holds image epoch g) → IsMeta image count body g.frame h.pages h.metas
   meta_held epoch g h =
       let same : h.at.body ≡ body = ap (λ (x : Slot × SlotBody). x.1) (some_is (h.slot, h.at.body) (slot, body) (sym h.at.newest_is ∙ opened)) in
@@ -134,17 +134,17 @@ module _ (image : List ℕ) (count : ℕ) (size : blocks_of image ≡ count) (sl
 
 -- ---- on every disk
 
-within : (f : Frame) (count : ℕ) (p : PagePlace) → IsPlaced f count p → (2 ≤ p.block) × (p.block < count)
-unfolding IsPlaced
+within : (f : Frame) (count : ℕ) (p : PagePlace) → IsPagePlace f count p → (2 ≤ p.block) × (p.block < count)
+unfolding IsPagePlace
 within f count p is = (is.1, is.2)
 
-placed : (f : Frame) (count : ℕ) (pages : List PagePlace) → All (IsPlaced f count) pages → AllByRecursion (λ p. (2 ≤ p.block) × (p.block < count)) pages
+placed : (f : Frame) (count : ℕ) (pages : List PagePlace) → All (IsPagePlace f count) pages → AllByRecursion (λ p. (2 ≤ p.block) × (p.block < count)) pages
 placed f count pages all = recursion_from_All (λ p. (2 ≤ p.block) × (p.block < count)) pages (λ i d lt. within f count _ (all i d lt))
 
-pub below : (f : Frame) (count : ℕ) (pages : List PagePlace) → All (IsPlaced f count) pages → AllByRecursion (λ p. p.block < count) pages
+pub below : (f : Frame) (count : ℕ) (pages : List PagePlace) → All (IsPagePlace f count) pages → AllByRecursion (λ p. p.block < count) pages
 below f count pages all = recursion_from_All (λ p. p.block < count) pages (λ i d lt. (within f count _ (all i d lt)).1)
 
-pub sound : (count : ℕ) (o : Origin) → 1 ≤ o.epoch → IsWhole o.parts.frame → IsOrderly count o.parts.frame o.placement.pages
+pub sound : (count : ℕ) (o : Origin) → 1 ≤ o.epoch → IsWholeFrame o.parts.frame → IsOrderly count o.parts.frame o.placement.pages
     → AreLayersOf (shared_out o.parts.frame.objects o.placement.pages) o.parts.layers → (1 ≤ length o.placement.metas) × InDisk count o.placement.metas → IsSound count o
 sound count o epoch whole orderly are metas =
     let law = parts_law o.parts.frame o.placement.pages o.parts.layers count whole orderly are in
@@ -159,5 +159,5 @@ sound count o epoch whole orderly are metas =
       metas = metas.1;
     }
 
-pub blocks_are : (image : List ℕ) (count : ℕ) → length image ≡ 4096 * count → blocks_of image ≡ count
+pub blocks_are : (image : List ℕ) (count : ℕ) → length image ≡ 4096 * count → block_count image ≡ count
 blocks_are image count long = omega (arith, long)

@@ -5,11 +5,11 @@ use Rattle.std.proofs.lemmas.Bool.{false≢true}
 use Rattle.std.proofs.lemmas.Bool.Decides.{nat_tests}
 use Rattle.std.proofs.lemmas.List.{length-replicate}
 use Rattle.std.proofs.lemmas.List.Elements.{All-from_recursion, recursion_from_All}
-use Rattle.group_defs.specs.Numbers.{AreBytes}
+use Rattle.lists.specs.Bytes.{AreBytes}
 use Rattle.mem_objects.specs.Pages.{Pages, page_of, IsZero}
 use Rattle.restore_group.specs.Layers.{IsPage}
-use Rattle.restore_group.specs.Parts.{page_in, object_bytes}
-use Rattle.restore_group.proofs.Ordered.{IsOrdered, each_weaker, each_always, each_flat, each_in_range}
+use Rattle.ckpt_records.specs.Parts.{page_in, object_bytes}
+use Rattle.ckpt_records.proofs.Ordered.{IsOrdered, each_weaker, each_always, each_flat, each_in_range}
 
 -- ---- one page
 

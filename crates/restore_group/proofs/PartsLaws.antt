@@ -5,7 +5,7 @@ use Rattle.std.specs.List.{filter, flat_map, range_with_len, AllZip, AllByRecurs
 use Rattle.std.proofs.lemmas.List.{map-append}
 use Rattle.std.proofs.lemmas.List.Elements.{filter-append, All-from_recursion}
 use Rattle.group_defs.specs.Cells.{bytes_in}
-use Rattle.group_defs.specs.Touched.{all_pages, nonzero_pages, page_bytes, is_zero_page, pages_of}
+use Rattle.group_defs.specs.Pages.{all_pages, nonzero_pages, page_bytes, is_zero_page, pages_of}
 use Rattle.group_defs.specs.Valid.{IsObject, EndsInZeros}
 use Rattle.group_defs.specs.declared.frame.Frame.{Frame}
 use Rattle.group_defs.specs.declared.frame.ObjectRec.{ObjectRec}
@@ -13,12 +13,12 @@ use Rattle.group_files.specs.declared.named_files.FileRec.{FileRec}
 use Rattle.mem_objects.specs.Pages.{Pages}
 use Rattle.ckpt_chain.specs.Chain.{block}
 use Rattle.ckpt_records.specs.declared.meta.PagePlace.{PagePlace}
-use Rattle.ckpt_records.specs.Holds.{IsCheckpointed, page_of}
+use Rattle.ckpt_records.specs.Holds.{IsCheckpointed, listed_page}
 use Rattle.ckpt_records.specs.Spells.{IsOrderly}
 use Rattle.restore_group.specs.Layers.{shared_out, layer_in, layers_in, IsLayerOf, AreLayersOf}
-use Rattle.restore_group.specs.Meta.{IsWhole}
-use Rattle.restore_group.specs.Parts.{page_in, object_bytes, memory_of}
-use Rattle.restore_group.proofs.Ordered.{IsOrdered, each_weaker, each_both, each_append, each_of_map, each_map, ordered_map, ordered_of_map}
+use Rattle.restore_group.specs.Meta.{IsWholeFrame}
+use Rattle.ckpt_records.specs.Parts.{page_in, object_bytes, memory_of}
+use Rattle.ckpt_records.proofs.Ordered.{IsOrdered, each_weaker, each_both, each_append, each_of_map, each_map, ordered_map, ordered_of_map}
 use Rattle.restore_group.proofs.LayerLaws.{all_zero, ArePages, IsRising, object_len, object_range, object_page, shown_numbers}
 use Rattle.restore_group.proofs.SharedOut.{IsLower, AreOwn, objects_rise, shared_own, shared_all}
 
@@ -89,7 +89,7 @@ filter_map : {X Y : Type 0} (t : Y → Bool) (f : X → Y) (xs : List X) → fil
 filter_map t f [] = refl
 filter_map t f (x ∷ xs) = ap (λ ys. cond (t (f x)) (f x ∷ ys) ys) (filter_map t f xs) ∙ sym (map_cond f (t (f x)) x (filter (λ x. t (f x)) xs))
 
-map_own : (object : ℕ) (pages : List PagePlace) → AllByRecursion (λ p. p.object ≡ object) pages → map (λ (p : PagePlace). (object, p.page)) pages ≡ map page_of pages
+map_own : (object : ℕ) (pages : List PagePlace) → AllByRecursion (λ p. p.object ≡ object) pages → map (λ (p : PagePlace). (object, p.page)) pages ≡ map listed_page pages
 map_own object [] own = refl
 map_own object (p ∷ pages) own = ap₂ (λ (key : ℕ × ℕ) (keys : List (ℕ × ℕ)). key ∷ keys) (ap (λ (n : ℕ). (n, p.page)) (sym own.0)) (map_own object pages own.1)
 
@@ -101,7 +101,7 @@ abbrev keys : ℕ → ℕ → List ℕ → List (ℕ × ℕ)
 keys number count bytes = map (λ page. (number, page)) (filter (λ k. not (all_zero (take 4096 (drop (4096 * k) bytes)))) (range_with_len 0 count))
 
 listed_of : (memory : List (ℕ × List ℕ)) (o : ObjectRec) (shared : ℕ × List PagePlace) (layer : Pages) → AreOwn o shared → IsLayerOf shared.1 layer → bytes_in memory o.number ≡ object_bytes o.pages layer
-    → filter (is_listed memory) (pages_of o) ≡ map page_of shared.1
+    → filter (is_listed memory) (pages_of o) ≡ map listed_page shared.1
 listed_of memory o shared layer own of found =
     let key : ℕ → ℕ × ℕ = λ (page : ℕ). (o.number, page) in
     filter_map (is_listed memory) key (range_with_len 0 o.pages)
@@ -111,7 +111,7 @@ listed_of memory o shared layer own of found =
     ∙ map_own o.number shared.1 own.object
 
 listed_all : (memory : List (ℕ × List ℕ)) (objects : List ObjectRec) (shared : List (ℕ × List PagePlace)) (layers : List (ℕ × Pages)) → AllZip AreOwn objects shared → AreLayersOf shared layers
-    → AllZip (IsFound memory) objects (memory_of objects layers) → filter (is_listed memory) (flat_map pages_of objects) ≡ map page_of (flat_map (λ s. s.1) shared)
+    → AllZip (IsFound memory) objects (memory_of objects layers) → filter (is_listed memory) (flat_map pages_of objects) ≡ map listed_page (flat_map (λ s. s.1) shared)
 unfolding memory_of
 listed_all memory [] [] layers own of found = refl
 listed_all memory [] (s ∷ shared) layers own of found = absurd own
@@ -120,7 +120,7 @@ listed_all memory (o ∷ objects) (s ∷ shared) [] own of found = absurd of
 listed_all memory (o ∷ objects) (s ∷ shared) (l ∷ layers) own of found =
     filter-append (is_listed memory) (pages_of o) (flat_map pages_of objects)
     ∙ ap₂ (λ (x y : List (ℕ × ℕ)). x ++ y) (listed_of memory o s l.1 own.0 of.0.1 found.0) (listed_all memory objects shared layers own.1 of.1 found.1)
-    ∙ sym (map-append page_of s.1 (flat_map (λ s. s.1) shared))
+    ∙ sym (map-append listed_page s.1 (flat_map (λ s. s.1) shared))
 
 -- ---- what the blocks of an image say of the pages
 
@@ -135,7 +135,7 @@ own_contents image (p ∷ own) rising =
 
 -- a page has its block's bytes in the memory
 abbrev HasBlock : List ℕ → List (ℕ × List ℕ) → PagePlace → Type 0
-HasBlock image memory p = block image p.block ≡ page_bytes memory (page_of p)
+HasBlock image memory p = block image p.block ≡ page_bytes memory (listed_page p)
 
 contents_of : (image : List ℕ) (memory : List (ℕ × List ℕ)) (o : ObjectRec) (shared : ℕ × List PagePlace) → AreOwn o shared → IsLayerOf shared.1 (layer_in image shared.1)
     → bytes_in memory o.number ≡ object_bytes o.pages (layer_in image shared.1) → AllByRecursion (HasBlock image memory) shared.1
@@ -161,8 +161,8 @@ contents_all image memory (o ∷ objects) (s ∷ shared) own of found =
 no_files : (memory : List (ℕ × List ℕ)) (files : List FileRec) → files ≡ [] → All (EndsInZeros memory) files
 no_files memory files none = subst (All (EndsInZeros memory)) (sym none) (All-from_recursion (EndsInZeros memory) [] tt)
 
-pub parts_law : (f : Frame) (pages : List PagePlace) (layers : List (ℕ × Pages)) (count : ℕ) → IsWhole f → IsOrderly count f pages → AreLayersOf (shared_out f.objects pages) layers
-    → (map (λ l. l.0) layers ≡ map (λ o. o.number) f.objects) × IsCheckpointed (record { frame = f; memory = memory_of f.objects layers }) × (map page_of pages ≡ nonzero_pages (record { frame = f; memory = memory_of f.objects layers }))
+pub parts_law : (f : Frame) (pages : List PagePlace) (layers : List (ℕ × Pages)) (count : ℕ) → IsWholeFrame f → IsOrderly count f pages → AreLayersOf (shared_out f.objects pages) layers
+    → (map (λ l. l.0) layers ≡ map (λ o. o.number) f.objects) × IsCheckpointed (record { frame = f; memory = memory_of f.objects layers }) × (map listed_page pages ≡ nonzero_pages (record { frame = f; memory = memory_of f.objects layers }))
 unfolding nonzero_pages all_pages
 parts_law f pages layers count whole orderly of =
     let shared = shared_out f.objects pages in
@@ -175,7 +175,7 @@ parts_law f pages layers count whole orderly of =
         built = whole.built;
         all_marked = whole.all_marked;
       },
-      ap (map page_of) (sym (shared_all f pages count orderly)) ∙ sym (listed_all memory f.objects shared layers own of (found_all f.objects memory fits (objects_rise f pages count orderly))),
+      ap (map listed_page) (sym (shared_all f pages count orderly)) ∙ sym (listed_all memory f.objects shared layers own of (found_all f.objects memory fits (objects_rise f pages count orderly))),
     )
 
 contents_in : (image : List ℕ) (f : Frame) (pages : List PagePlace) (count : ℕ) → IsOrderly count f pages → AreLayersOf (shared_out f.objects pages) (layers_in image (shared_out f.objects pages))
@@ -187,8 +187,8 @@ contents_in image f pages count orderly of =
     let found = found_all f.objects memory (memory_fits f.objects shared (layers_in image shared) own of) (objects_rise f pages count orderly) in
     All-from_recursion (HasBlock image memory) pages (subst (AllByRecursion (HasBlock image memory)) (shared_all f pages count orderly) (contents_all image memory f.objects shared own of found))
 
-pub contents_law : (image : List ℕ) (f : Frame) (pages : List PagePlace) (layers : List (ℕ × Pages)) (count : ℕ) → IsWhole f → IsOrderly count f pages → AreLayersOf (shared_out f.objects pages) layers → layers ≡ layers_in image (shared_out f.objects pages)
-    → All (λ p. block image p.block ≡ page_bytes (memory_of f.objects layers) (page_of p)) pages
+pub contents_law : (image : List ℕ) (f : Frame) (pages : List PagePlace) (layers : List (ℕ × Pages)) (count : ℕ) → IsWholeFrame f → IsOrderly count f pages → AreLayersOf (shared_out f.objects pages) layers → layers ≡ layers_in image (shared_out f.objects pages)
+    → All (λ p. block image p.block ≡ page_bytes (memory_of f.objects layers) (listed_page p)) pages
 contents_law image f pages layers count whole orderly of read =
     let shared = shared_out f.objects pages in
     subst (λ (ls : List (ℕ × Pages)). All (HasBlock image (memory_of f.objects ls)) pages) (sym read) (contents_in image f pages count orderly (subst (AreLayersOf shared) read of))

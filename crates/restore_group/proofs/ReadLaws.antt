@@ -3,10 +3,10 @@ use Rattle.std.proofs.Common.{◌≡◌, ℕ, zero, suc, ◌+◌, ◌<◌, ◌�
 use Rattle.std.specs.List.{AllByRecursion, AllPairs, AllZip}
 use Rattle.std.proofs.lemmas.Bool.{eqb-true}
 use Rattle.std.proofs.lemmas.List.{take_more, length-map, get_or-map, map-append}
-use Rattle.mem_objects.specs.Pages.{Pages, Rise, IsZero}
+use Rattle.mem_objects.specs.Pages.{Pages, PageNumbersRise, IsZero}
 use Rattle.ckpt_chain.specs.Chain.{block}
 use Rattle.ckpt_records.specs.declared.meta.PagePlace.{PagePlace}
-use Rattle.ckpt_records.specs.Spells.{PagesRise, IsBefore}
+use Rattle.ckpt_records.specs.Spells.{PagesRise, IsPageBefore}
 use Rattle.group_defs.specs.declared.frame.ObjectRec.{ObjectRec}
 use Rattle.restore_group.specs.Layers.{front, behind, shared_out, AreLayersOf, IsLayerOf, IsPage, layer_in, layers_in, NoneZero}
 
@@ -48,8 +48,8 @@ unfolding NoneZero
 none_zero_at image pages i none lt = all_at (λ (p : PagePlace). IsZero (block image p.block) → ⊥) pages i no_page none lt
 
 -- The pages of a layer rise where those of the placement do.
-pub layer_rises : (own : List PagePlace) (layer : Pages) → IsLayerOf own layer → AllPairs (λ p q. p.page < q.page) own → Rise layer
-unfolding Rise
+pub layer_rises : (own : List PagePlace) (layer : Pages) → IsLayerOf own layer → AllPairs (λ p q. p.page < q.page) own → PageNumbersRise layer
+unfolding PageNumbersRise
 layer_rises own layer h rising i j lt in_range =
     let size : length layer ≡ length own = sym (length-map layer (λ (l : ℕ × List ℕ). l.0)) ∙ ap (λ (x : List ℕ). length x) h.numbers ∙ length-map own (λ (p : PagePlace). p.page) in
     let at : (k : ℕ) → k < length own → (get_or layer k (0, [])).0 ≡ (get_or own k no_page).page =
@@ -119,8 +119,8 @@ front_at object (p ∷ pages) i d lt = either (eqb p.object object) refl i lt (�
     either true e zero low rest = record { in_range = omega arith; same = refl; is_own = eqb-true p.object object e }
     either true e (suc k) low rest = let h = rest k (omega (arith, low)) in record { in_range = omega (arith, h.in_range); same = h.same; is_own = h.is_own }
 
-of_one : (p q : PagePlace) (object : ℕ) → p.object ≡ object → q.object ≡ object → IsBefore p q → p.page < q.page
-unfolding IsBefore
+of_one : (p q : PagePlace) (object : ℕ) → p.object ≡ object → q.object ≡ object → IsPageBefore p q → p.page < q.page
+unfolding IsPageBefore
 of_one p q object e f (inl lower) = absurd (omega (arith, e, f, lower))
 of_one p q object e f (inr h) = h.1
 
@@ -155,7 +155,7 @@ rest_all P (o ∷ objects) pages all = rest_all P objects (behind o.number pages
 pub rest_rises : (objects : List ObjectRec) (pages : List PagePlace) → PagesRise pages → PagesRise (rest_after objects pages)
 unfolding rest_after PagesRise
 rest_rises [] pages rising = rising
-rest_rises (o ∷ objects) pages rising = rest_rises objects (behind o.number pages) (pairs_behind IsBefore o.number pages rising)
+rest_rises (o ∷ objects) pages rising = rest_rises objects (behind o.number pages) (pairs_behind IsPageBefore o.number pages rising)
 
 shared_more : (objects : List ObjectRec) (o : ObjectRec) (pages : List PagePlace) → shared_out (objects ++ o ∷ []) pages ≡ shared_out objects pages ++ (o.number, front o.number (rest_after objects pages)) ∷ []
 unfolding shared_out rest_after

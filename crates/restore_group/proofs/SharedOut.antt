@@ -8,9 +8,9 @@ use Rattle.tables.specs.Rising.{Rise}
 use Rattle.group_defs.specs.declared.frame.Frame.{Frame}
 use Rattle.group_defs.specs.declared.frame.ObjectRec.{ObjectRec}
 use Rattle.ckpt_records.specs.declared.meta.PagePlace.{PagePlace}
-use Rattle.ckpt_records.specs.Spells.{IsBefore, IsOrderly, IsPlaced, IsPageOf, PagesRise}
+use Rattle.ckpt_records.specs.Spells.{IsPageBefore, IsOrderly, IsPagePlace, IsPageOf, PagesRise}
 use Rattle.restore_group.specs.Layers.{front, behind, shared_out}
-use Rattle.restore_group.proofs.Ordered.{IsOrdered, each_weaker, each_both, ordered_of_pairs}
+use Rattle.ckpt_records.proofs.Ordered.{IsOrdered, each_weaker, each_both, ordered_of_pairs}
 
 -- ---- the pages at the front, and those behind them
 
@@ -66,24 +66,24 @@ unfolding behind
 ordered_behind R object [] ordered = tt
 ordered_behind R object (p ∷ pages) ordered = either (IsOrdered R) (p.object == object) (behind object pages) (p ∷ pages) (λ said. ordered_behind R object pages ordered.1) (λ said. ordered)
 
-object_rises : (p q : PagePlace) → IsBefore p q → p.object ≤ q.object
-unfolding IsBefore
+object_rises : (p q : PagePlace) → IsPageBefore p q → p.object ≤ q.object
+unfolding IsPageBefore
 object_rises p q (inl lt) = omega (arith, lt)
 object_rises p q (inr same) = omega (arith, same.0)
 
-page_rises : (p q : PagePlace) → p.object ≡ q.object → IsBefore p q → p.page < q.page
-unfolding IsBefore
+page_rises : (p q : PagePlace) → p.object ≡ q.object → IsPageBefore p q → p.page < q.page
+unfolding IsPageBefore
 page_rises p q same (inl lt) = absurd (omega (arith, lt, same))
 page_rises p q same (inr both) = both.1
 
-higher_behind : (object : ℕ) (pages : List PagePlace) → IsOrdered IsBefore pages → AllByRecursion (λ p. object ≤ p.object) pages → AllByRecursion (λ p. object < p.object) (behind object pages)
+higher_behind : (object : ℕ) (pages : List PagePlace) → IsOrdered IsPageBefore pages → AllByRecursion (λ p. object ≤ p.object) pages → AllByRecursion (λ p. object < p.object) (behind object pages)
 unfolding behind
 higher_behind object [] ordered least = tt
 higher_behind object (p ∷ pages) ordered least =
     either (AllByRecursion (λ p. object < p.object)) (p.object == object) (behind object pages) (p ∷ pages) (λ said. higher_behind object pages ordered.1 least.1)
     (λ said.
     let above : object < p.object = other_number p.object object said least.0 in
-    (above, each_weaker (IsBefore p) (λ q. object < q.object) pages (λ q before. omega (arith, above, object_rises p q before)) ordered.0))
+    (above, each_weaker (IsPageBefore p) (λ q. object < q.object) pages (λ q before. omega (arith, above, object_rises p q before)) ordered.0))
 
 -- ---- pages of objects that rise
 
@@ -122,12 +122,12 @@ module _ (o : ObjectRec) (objects : List ObjectRec) (higher : AllByRecursion (Is
 
 -- pages in order, each of one of the objects
 record AreOf (objects : List ObjectRec) (pages : List PagePlace) : Type 0 where
-  ordered : IsOrdered IsBefore pages
+  ordered : IsOrdered IsPageBefore pages
   among : AllByRecursion (IsAmong objects) pages
 
 later_of : (o : ObjectRec) (objects : List ObjectRec) (pages : List PagePlace) → AllByRecursion (IsLower o) objects → AreOf (o ∷ objects) pages → AreOf objects (behind o.number pages)
 later_of o objects pages higher are = record {
-  ordered = ordered_behind IsBefore o.number pages are.ordered;
+  ordered = ordered_behind IsPageBefore o.number pages are.ordered;
   among = each_both (IsAmong (o ∷ objects)) (λ p. o.number < p.object) (IsAmong objects) (behind o.number pages) (λ p among above. among_later o objects higher p among above)
       (each_behind (IsAmong (o ∷ objects)) o.number pages are.among)
       (higher_behind o.number pages are.ordered (each_weaker (IsAmong (o ∷ objects)) (λ p. o.number ≤ p.object) pages (λ p among. least_of o objects higher p among) are.among));
@@ -140,10 +140,10 @@ pub record AreOwn (o : ObjectRec) (shared : ℕ × List PagePlace) : Type 0 wher
   pub rising : IsOrdered (λ p q. p.page < q.page) shared.1
   pub within : AllByRecursion (λ p. p.page < o.pages) shared.1
 
-own_rising : (object : ℕ) (pages : List PagePlace) → AllByRecursion (λ p. p.object ≡ object) pages → IsOrdered IsBefore pages → IsOrdered (λ p q. p.page < q.page) pages
+own_rising : (object : ℕ) (pages : List PagePlace) → AllByRecursion (λ p. p.object ≡ object) pages → IsOrdered IsPageBefore pages → IsOrdered (λ p q. p.page < q.page) pages
 own_rising object [] own ordered = tt
 own_rising object (p ∷ pages) own ordered =
-    (each_both (λ q. q.object ≡ object) (IsBefore p) (λ q. p.page < q.page) pages (λ q same before. page_rises p q (own.0 ∙ sym same) before) own.1 ordered.0, own_rising object pages own.1 ordered.1)
+    (each_both (λ q. q.object ≡ object) (IsPageBefore p) (λ q. p.page < q.page) pages (λ q same before. page_rises p q (own.0 ∙ sym same) before) own.1 ordered.0, own_rising object pages own.1 ordered.1)
 
 all_own : (objects : List ObjectRec) (pages : List PagePlace) → IsOrdered IsLower objects → AreOf objects pages → AllZip AreOwn objects (shared_out objects pages)
 unfolding shared_out
@@ -152,7 +152,7 @@ all_own (o ∷ objects) pages rising are = (
   record {
     number = refl;
     object = own_front o.number pages;
-    rising = own_rising o.number (front o.number pages) (own_front o.number pages) (ordered_front IsBefore o.number pages are.ordered);
+    rising = own_rising o.number (front o.number pages) (own_front o.number pages) (ordered_front IsPageBefore o.number pages are.ordered);
     within = each_both (λ p. p.object ≡ o.number) (IsAmong (o ∷ objects)) (λ p. p.page < o.pages) (front o.number pages) (λ p same among. within_own o objects rising.0 p among same) (own_front o.number pages)
         (each_front (IsAmong (o ∷ objects)) o.number pages are.among);
   },
@@ -172,10 +172,10 @@ module _ (f : Frame) (pages : List PagePlace) (count : ℕ) (orderly : IsOrderly
   objects_rise = ordered_of_pairs IsLower f.objects orderly.lists.objects
 
   are_of : AreOf f.objects pages
-  unfolding PagesRise IsPlaced IsPageOf
+  unfolding PagesRise IsPagePlace IsPageOf
   are_of = record {
-    ordered = ordered_of_pairs IsBefore pages orderly.rising;
-    among = each_weaker (IsPlaced f count) (IsAmong f.objects) pages (λ p placed. among_of_any f.objects p placed.0) (recursion_from_All (IsPlaced f count) pages orderly.placed);
+    ordered = ordered_of_pairs IsPageBefore pages orderly.rising;
+    among = each_weaker (IsPagePlace f count) (IsAmong f.objects) pages (λ p placed. among_of_any f.objects p placed.0) (recursion_from_All (IsPagePlace f count) pages orderly.placed);
   }
 
   -- each object has just its own pages

@@ -2,7 +2,7 @@
 use Rattle.std.specs.Prelude.{◌≡◌, ℕ, ◌==◌, if◌then◌else◌, List, [], ◌∷◌, map, length}
 use Rattle.std.specs.List.{AllByRecursion, AllZip}
 use Rattle.group_defs.specs.declared.frame.ObjectRec.{ObjectRec}
-use Rattle.group_defs.specs.Numbers.{AreBytes}
+use Rattle.lists.specs.Bytes.{AreBytes}
 use Rattle.ckpt_chain.specs.Chain.{block}
 use Rattle.ckpt_records.specs.declared.meta.PagePlace.{PagePlace}
 use Rattle.mem_objects.specs.Pages.{Pages, IsZero}

@@ -1,4 +1,3 @@
-pub mod Parts
 pub mod Layers
 pub mod Meta
 pub mod Outcome

@@ -10,7 +10,7 @@ use Rattle.ckpt_records.specs.Spells.{Spells}
 use Rattle.ckpt_records.specs.declared.meta.PagePlace.{PagePlace}
 
 -- a frame that a checkpoint may have; what the bytes of files must be is no matter while there are none
-pub record IsWhole (f : Frame) : Type 0 where
+pub record IsWholeFrame (f : Frame) : Type 0 where
   pub valid : FrameValid f
   pub built : OnlyBuilt f
   pub all_marked : f.out.mark ≡ last_position f.out
@@ -20,4 +20,4 @@ pub record IsMeta (image : List ℕ) (count : ℕ) (body : SlotBody) (f : Frame)
   pub bytes : List ℕ
   pub stream : stream_at image count body ≡ Some (bytes, metas)
   pub spelled : Spells bytes count f pages
-  pub whole : IsWhole f
+  pub whole : IsWholeFrame f

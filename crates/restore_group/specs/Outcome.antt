@@ -3,18 +3,18 @@ use Rattle.std.specs.Prelude.{◌≡◌, ◌≤◌, ◌<◌, ℕ, List, [], ◌�
 use Rattle.std.specs.List.{AllByRecursion}
 use Rattle.dev_traits.specs.Counts.{Rose}
 use Rattle.group_defs.specs.Group.{Group}
-use Rattle.group_defs.specs.Touched.{nonzero_pages}
+use Rattle.group_defs.specs.Pages.{nonzero_pages}
 use Rattle.ckpt_chain.specs.Chain.{InDisk}
-use Rattle.ckpt_chain.specs.Slot.{newest, gate_place}
+use Rattle.ckpt_chain.specs.Slot.{newest}
 use Rattle.ckpt_chain.specs.declared.slot.Slot.{Slot}
-use Rattle.ckpt_chain.specs.declared.slot.Slot.TheVariants.{A, B}
 use Rattle.ckpt_chain.specs.declared.slot.SlotBody.{SlotBody}
-use Rattle.ckpt_records.specs.Holds.{Holds, HoldsAt, IsCheckpointed, page_of}
+use Rattle.ckpt_records.specs.Holds.{Holds, IsCheckpointed, listed_page}
 use Rattle.ckpt_records.specs.Spells.{PagesRise}
 use Rattle.ckpt_records.specs.declared.origin.Origin.{Origin}
-use Rattle.restore_group.specs.Parts.{group_of, StandFor}
+use Rattle.ckpt_records.specs.Parts.{group_of, StandFor}
 use Rattle.restore_group.specs.declared.restoring.Refused.{Refused}
 use Rattle.restore_group.specs.declared.restoring.Refused.TheVariants as refusals
+use Rattle.ckpt_records.specs.Origin.{IsRestored}
 
 -- the image holds no epoch and no group
 abbrev pub HoldsNothing : List ℕ → Type 0
@@ -26,11 +26,6 @@ pub record IsOpenAt (image : List ℕ) (epoch : ℕ) : Type 0 where
   pub body : SlotBody
   pub newest_is : newest image ≡ Some (slot, body)
   pub epoch_is : body.epoch ≡ epoch
-
--- The image holds the origin's epoch and group, at its placement; the gates are the gate bytes of slots A and B.
-pub record IsRestored (image : List ℕ) (o : Origin) : Type 0 where
-  pub held : HoldsAt image o.epoch (group_of o.parts) o.placement.pages o.placement.metas o.placement.slot
-  pub gates : o.gates ≡ slice_index image (gate_place A) ∷ slice_index image (gate_place B) ∷ []
 
 -- Ok is what the image holds; NoCheckpoint where no slot is open; Damaged where one is and nothing is held. Want of memory is
 -- answered only where a slot is open.
@@ -47,7 +42,7 @@ pub record IsSound (count : ℕ) (o : Origin) : Type 0 where
   pub epoch : 1 ≤ o.epoch
   pub parts : StandFor o.parts (group_of o.parts)
   pub group : IsCheckpointed (group_of o.parts)
-  pub listed : map page_of o.placement.pages ≡ nonzero_pages (group_of o.parts)
+  pub listed : map listed_page o.placement.pages ≡ nonzero_pages (group_of o.parts)
   pub rising : PagesRise o.placement.pages
   pub placed : AllByRecursion (λ p. (2 ≤ p.block) × (p.block < count)) o.placement.pages
   pub some_meta : 1 ≤ length o.placement.metas

@@ -1,10 +1,10 @@
 //! The layers of a group's objects.
 ghost use Rattle.std.specs.Prelude.{◌≡◌, ◌<◌, ◌≤◌, ◌^◌, List, ℕ, Some, Err, IfOk, IfErr, length, take, drop};
 ghost use Rattle.std.specs.List.{AllByRecursion, AllPairs};
-ghost use Rattle.group_defs.specs.Numbers.{AreBytes};
+ghost use Rattle.lists.specs.Bytes.{AreBytes};
 ghost use Rattle.mem_objects.specs.Pages.{IsZero};
 ghost use Rattle.ckpt_chain.specs.Chain.{block};
-ghost use Rattle.ckpt_chain.specs.Gives.{FaultRose};
+ghost use Rattle.ckpt_chain.specs.Refusals.{FaultRose};
 ghost use Rattle.ckpt_chain.specs.Reads.{OnlyReads};
 ghost use Rattle.ckpt_chain.specs.declared.stream.StreamRefused.TheVariants.{Broken, NoMemory as OutOfMemory};
 ghost use Rattle.ckpt_records.specs.Spells.{PagesRise};
@@ -14,7 +14,7 @@ use ckpt_chain::{StreamRefused, read_block};
 use ckpt_records::PagePlace;
 use dev_traits::Disk;
 use group_defs::ObjectRec;
-use lists::{NoMemory, Seq};
+use lists::{NoMemory, Seq, bytes_fit};
 use mem_objects::{Layer, PageBuf, is_zero};
 use std::alloc::Global;
 
@@ -109,8 +109,3 @@ fn page_with(alloc: Global, bytes: &[u8; 4096]) -> Result<PageBuf, StreamRefused
         Err(NoMemory) => Err(StreamRefused::NoMemory),
     }
 }
-
-// What their type says of bytes, for contracts alone.
-fn bytes_fit(_bytes: &[u8])
-    ensures { AreBytes _bytes.now }
-{}

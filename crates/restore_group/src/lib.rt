@@ -8,7 +8,6 @@
 mod layers;
 mod record;
 mod restoring;
-mod slots;
 #[cfg(test)]
 mod tests;
 

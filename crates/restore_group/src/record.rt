@@ -1,13 +1,13 @@
 //! The record of a checkpoint.
 ghost use Rattle.std.specs.Prelude.{◌≡◌, ◌≤◌, ◌^◌, ◌↔◌, List, ℕ, Some, Err, IsTrue, IfOk, length};
 ghost use Rattle.ckpt_chain.specs.Chain.{InDisk};
-ghost use Rattle.ckpt_chain.specs.Gives.{FaultRose};
+ghost use Rattle.ckpt_chain.specs.Refusals.{FaultRose};
 ghost use Rattle.ckpt_chain.specs.Reads.{OnlyReads};
 ghost use Rattle.ckpt_chain.specs.declared.stream.StreamRefused.TheVariants.{Broken};
 ghost use Rattle.ckpt_records.specs.Spells.{IsOrderly};
 ghost use Rattle.ckpt_records.specs.declared.meta.PagePlace.{PagePlace};
 ghost use Rattle.group_defs.specs.declared.frame.Frame.{Frame as FrameValue};
-ghost use Rattle.restore_group.specs.Meta.{IsMeta, IsWhole};
+ghost use Rattle.restore_group.specs.Meta.{IsMeta, IsWholeFrame};
 
 use ckpt_chain::{SlotBody, StreamRefused, read_stream};
 use ckpt_records::{Meta, ReadError, read_meta};
@@ -18,7 +18,7 @@ use std::alloc::Global;
 
 /// Whether a checkpoint may have this frame.
 fn is_whole(f: &Frame) -> bool
-    ensures { IsTrue result ↔ IsWhole f.now }
+    ensures { IsTrue result ↔ IsWholeFrame f.now }
 {
     let held = f.out.bytes.len() as u64;
     frame_valid(f) && f.out.mark >= f.out.from && f.out.mark - f.out.from == held
@@ -35,7 +35,7 @@ pub fn meta_of<D: Disk>(
     ensures found { (image : List ℕ) → (D.view disk.old).reading ≡ Some image → IfOk result (λ r. IsMeta image (D.view disk.old).blocks body r.0.frame r.0.pages r.1) }
     ensures only { (image : List ℕ) → (D.view disk.old).reading ≡ Some image → result ≡ Err Broken → (f : FrameValue) (pages : List PagePlace) (metas : List ℕ) → IsMeta image (D.view disk.old).blocks body f pages metas → ⊥ }
     ensures orderly { IfOk result (λ r. IsOrderly (D.view disk.old).blocks r.0.frame r.0.pages) }
-    ensures whole { IfOk result (λ r. IsWhole r.0.frame) }
+    ensures whole { IfOk result (λ r. IsWholeFrame r.0.frame) }
     ensures metas { IfOk result (λ r. (1 ≤ length r.1) × InDisk (D.view disk.old).blocks r.1) }
     ensures disk { OnlyReads (D.view disk.old) (D.view disk.new) }
     ensures cause { FaultRose (D.view disk.old).faults (D.view disk.new).faults result }

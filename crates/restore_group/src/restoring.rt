@@ -8,8 +8,7 @@ ghost use Rattle.restore_group.specs.declared.restoring.Refused.TheVariants as r
 
 use crate::layers::read_layers;
 use crate::record::meta_of;
-use crate::slots::read_slots;
-use ckpt_chain::StreamRefused;
+use ckpt_chain::{StreamRefused, read_slots};
 use ckpt_records::{Meta, Origin, Parts, Placement};
 use dev_traits::Disk;
 use std::alloc::Global;

@@ -3,17 +3,17 @@ use Rattle.std.proofs.Common.{◌≡◌, ℕ, zero, suc, ◌+◌, ◌≤◌, Boo
 use Rattle.std.specs.List.{filter_map, sum_by}
 use Rattle.std.proofs.lemmas.List.Elements.{filter_map-append}
 use Rattle.std.proofs.lemmas.List.Sums.{sum_by-append, sum_by-cons}
-use Rattle.group_defs.specs.declared.run.Mark.{Mark}
-use Rattle.group_defs.specs.declared.run.Mark.TheVariants.{Barrier, Fetch}
+use Rattle.run_defs.specs.declared.run.Mark.{Mark}
+use Rattle.run_defs.specs.declared.run.Mark.TheVariants.{Barrier, Fetch}
 use Rattle.group_defs.specs.Group.{Group}
-use Rattle.group_defs.specs.Trace.{IsGroupOf, group_of}
+use Rattle.run_defs.specs.Trace.{IsGroupOf, group_of_epoch}
 use Rattle.commit_gate.specs.Whole.{UpTo, calls_more, closing, write_calls}
 use Rattle.commit_gate.specs.declared.whole.Block.{Block}
-use Rattle.solo_engine.specs.Answers.{calls_of, fetched_epoch, writes_allowed}
-use Rattle.solo_engine.specs.Plans.{calls_for, cost_of}
-use Rattle.solo_engine.specs.Safe.{RunSoFar}
-use Rattle.solo_engine.proofs.Between.{group_of_more}
-use Rattle.solo_engine.proofs.Standing.{longer}
+use Rattle.sls_core.specs.Answers.{calls_of_epoch, fetched_epoch, writes_allowed}
+use Rattle.ckpt_records.specs.Cost.{calls_for, cost_of}
+use Rattle.sls_core.specs.Safe.{RunSoFar}
+use Rattle.run_defs.specs.AtRest.{EpochsHaveGroups}
+use Rattle.solo_engine.proofs.SafeSoFar.{longer}
 
 -- ---- the calls of one commit
 
@@ -42,29 +42,29 @@ sums_rise : (f g : ℕ → ℕ) (es : List ℕ) → ((e : ℕ) → f e ≤ g e) 
 sums_rise f g [] rise = omega arith
 sums_rise f g (e ∷ es) rise = omega (arith, sum_by-cons f e es, sum_by-cons g e es, rise e, sums_rise f g es rise)
 
-calls_rise : (run : RunSoFar) (more : List Mark) (epoch : ℕ) → calls_of run epoch ≤ calls_of (longer run more) epoch
-calls_rise run more epoch = by_group (group_of run.limits.quantum run.start run.origin run.trace epoch) refl
+calls_rise : (run : RunSoFar) (epochs : EpochsHaveGroups run.start run.origin run.limits) (more : List Mark) (epoch : ℕ) → calls_of_epoch run epoch ≤ calls_of_epoch (longer run more) epoch
+calls_rise run epochs more epoch = by_group (group_of_epoch run.limits.quantum run.start run.origin run.trace epoch) refl
   where
-    by_group : (o : Option Group) → group_of run.limits.quantum run.start run.origin run.trace epoch ≡ o → calls_of run epoch ≤ calls_of (longer run more) epoch
+    by_group : (o : Option Group) → group_of_epoch run.limits.quantum run.start run.origin run.trace epoch ≡ o → calls_of_epoch run epoch ≤ calls_of_epoch (longer run more) epoch
     by_group None is = omega (arith, ap calls_in is)
-    by_group (Some h) is = omega (arith, ap calls_in is, ap calls_in (group_of_more run.limits.quantum run.start run.origin run.trace more epoch h is))
+    by_group (Some h) is = omega (arith, ap calls_in is, ap calls_in (epochs.later run.trace more epoch h is))
 
-sums_more : (run : RunSoFar) (more : List Mark) → writes_allowed run + sum_by (calls_of (longer run more)) (filter_map fetched_epoch more) ≤ writes_allowed (longer run more)
-sums_more run more =
-    let calls = calls_of (longer run more) in
+sums_more : (run : RunSoFar) (epochs : EpochsHaveGroups run.start run.origin run.limits) (more : List Mark) → writes_allowed run + sum_by (calls_of_epoch (longer run more)) (filter_map fetched_epoch more) ≤ writes_allowed (longer run more)
+sums_more run epochs more =
+    let calls = calls_of_epoch (longer run more) in
     let old = filter_map fetched_epoch run.trace in
     let new = filter_map fetched_epoch more in
-    omega (arith, sums_rise (calls_of run) calls old (calls_rise run more), ap (sum_by calls) (filter_map-append fetched_epoch run.trace more), sum_by-append calls old new)
+    omega (arith, sums_rise (calls_of_epoch run) calls old (calls_rise run epochs more), ap (sum_by calls) (filter_map-append fetched_epoch run.trace more), sum_by-append calls old new)
 
 -- marks more allow no fewer
-pub allowed_longer : (run : RunSoFar) (more : List Mark) → writes_allowed run ≤ writes_allowed (longer run more)
-allowed_longer run more = omega (arith, sums_more run more)
+pub allowed_longer : (run : RunSoFar) (epochs : EpochsHaveGroups run.start run.origin run.limits) (more : List Mark) → writes_allowed run ≤ writes_allowed (longer run more)
+allowed_longer run epochs more = omega (arith, sums_more run epochs more)
 
 -- a barrier and its fetch allow those of its group
-pub allowed_fetched : (run : RunSoFar) (more : List Mark) (epoch : ℕ) (h : Group) → IsGroupOf run.limits.quantum run.start run.origin (run.trace ++ (more ++ Barrier epoch ∷ Fetch epoch ∷ [])) epoch h
+pub allowed_fetched : (run : RunSoFar) (epochs : EpochsHaveGroups run.start run.origin run.limits) (more : List Mark) (epoch : ℕ) (h : Group) → IsGroupOf run.limits.quantum run.start run.origin (run.trace ++ (more ++ Barrier epoch ∷ Fetch epoch ∷ [])) epoch h
     → writes_allowed run + calls_for h ≤ writes_allowed (longer run (more ++ Barrier epoch ∷ Fetch epoch ∷ []))
-allowed_fetched run more epoch h is =
+allowed_fetched run epochs more epoch h is =
     let behind = more ++ Barrier epoch ∷ Fetch epoch ∷ [] in
-    let calls = calls_of (longer run behind) in
+    let calls = calls_of_epoch (longer run behind) in
     let old = filter_map fetched_epoch more in
-    omega (arith, sums_more run behind, ap (sum_by calls) (filter_map-append fetched_epoch more (Barrier epoch ∷ Fetch epoch ∷ [])), sum_by-append calls old (epoch ∷ []), sum_by-cons calls epoch [], ap calls_in is)
+    omega (arith, sums_more run epochs behind, ap (sum_by calls) (filter_map-append fetched_epoch more (Barrier epoch ∷ Fetch epoch ∷ [])), sum_by-append calls old (epoch ∷ []), sum_by-cons calls epoch [], ap calls_in is)

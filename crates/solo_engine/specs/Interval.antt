@@ -1,59 +1,58 @@
 -- What the parts of an interval do: the turns up to a barrier, the barrier with its fetch, the plan, and the commit with the
 -- release.
-use Rattle.std.specs.Prelude.{◌≡◌, ◌⊎◌, ◌≤◌, ◌<◌, ◌+◌, ◌-◌, ◌*◌, ℕ, ⊤, List, [], ◌∷◌, ◌++◌, length, take, drop}
+use Rattle.std.specs.Prelude.{◌≡◌, ◌⊎◌, ◌≤◌, ◌<◌, ◌+◌, ◌-◌, ◌*◌, ◌^◌, ℕ, ⊤, List, [], ◌∷◌, ◌++◌, length, drop}
 use Rattle.std.specs.List.{filter_map}
 use Rattle.std.specs.Option.{ForSome}
 use Rattle.dev_traits.specs.Counts.{Rose}
 use Rattle.dev_traits.specs.Disk.{DiskView, OnlyReading}
 use Rattle.dev_traits.specs.Since.{LeavesOnly}
-use Rattle.dev_traits.specs.Outside.{SinkView, Takes}
+use Rattle.dev_traits.specs.Outside.{SinkView, Takes, TakesPart}
 use Rattle.group_defs.specs.declared.frame.Out.{Out}
-use Rattle.group_defs.specs.declared.run.AckMark.{AckMark}
-use Rattle.group_defs.specs.declared.run.Limits.{Limits}
-use Rattle.group_defs.specs.declared.run.Mark.{Mark}
-use Rattle.group_defs.specs.declared.run.Mark.TheVariants.{Barrier, Fetch, Ack}
-use Rattle.group_defs.specs.Ends.{IsDone, IsStuck}
+use Rattle.run_defs.specs.declared.run.AckMark.{AckMark}
+use Rattle.run_defs.specs.declared.run.Limits.{Limits}
+use Rattle.run_defs.specs.declared.run.Mark.{Mark}
+use Rattle.run_defs.specs.declared.run.Mark.TheVariants.{Barrier, Fetch, Ack}
+use Rattle.run_defs.specs.Ends.{IsDone, IsStuck}
 use Rattle.group_defs.specs.Group.{Group}
-use Rattle.group_defs.specs.Legal.{ready}
+use Rattle.run_defs.specs.Legal.{ready}
 use Rattle.group_defs.specs.Output.{last_position}
-use Rattle.group_defs.specs.Solo.{IsSoloSoFar}
-use Rattle.group_defs.specs.Trace.{barrier, acked_epoch}
+use Rattle.run_defs.specs.Solo.{IsSoloPrefix, IsSoloSoFar}
+use Rattle.run_defs.specs.Trace.{barrier, acked_epoch}
 use Rattle.ckpt_records.specs.Holds.{IsCheckpointed}
-use Rattle.commit_gate.specs.Whole.{Reads, finished, numbers}
+use Rattle.commit_gate.specs.Whole.{Reads, finished}
 use Rattle.commit_gate.specs.declared.whole.Block.{Block}
 use Rattle.ckpt_chain.specs.declared.slot.SlotBody.{SlotBody}
-use Rattle.solo_engine.specs.Going.{NoneOf, StandsAt}
-use Rattle.solo_engine.specs.Keeping.{Kept, nothing, checkpoint, Keeps, KeepsOrHolds, IsPlan}
-use Rattle.solo_engine.specs.Known.{IsAfter, Knows}
-use Rattle.solo_engine.specs.Plans.{calls_for, cost_of, free_blocks}
-use Rattle.solo_engine.specs.declared.interval.Ready.{Ready}
-use Rattle.solo_engine.specs.declared.kept.KeptBlocks.{KeptBlocks}
-use Rattle.solo_engine.specs.declared.run.RunAnswer.{RunAnswer}
-use Rattle.solo_engine.specs.declared.run.RunAnswer.TheVariants.{Done, Stuck, Spent, DiskFault, SinkFault, DiskFull, NoMemory}
+use Rattle.run_defs.specs.AtRest.{BarriersLetOut, EpochsHaveGroups, HasNoMarkOf, IsDue, IsTraceAtRest, OutputHasParts, RestsFollow}
+use Rattle.ckpt_records.specs.Newest.{NewestCheckpoint, nothing, checkpoint, HasNewest}
+use Rattle.page_flusher.specs.CommitPlan.{HasNewestOrNext, IsPlan}
+use Rattle.page_flusher.specs.KeptBlocks.{IsKeptAfter, Describes}
+use Rattle.ckpt_records.specs.Cost.{calls_for, cost_of}
+use Rattle.page_flusher.specs.Plans.{IsFreeCount}
+use Rattle.solo_engine.specs.declared.interval.PlannedCommit.{PlannedCommit}
+use Rattle.page_flusher.specs.declared.kept.KeptBlocks.{KeptBlocks}
+use Rattle.sls_core.specs.declared.run.RunAnswer.{RunAnswer}
+use Rattle.sls_core.specs.declared.run.RunAnswer.TheVariants.{Done, Stuck, Spent, DiskFault, SinkFault, DiskFull, NoMemory}
 
 -- marks more, none of which is of a barrier
 pub record IsLonger (trace trace' : List Mark) : Type 0 where
   pub more : List Mark
   pub trace_is : trace' ≡ trace ++ more
-  pub none : (epoch : ℕ) → NoneOf epoch more
+  pub none : (epoch : ℕ) → HasNoMarkOf epoch more
   pub unacked : filter_map acked_epoch more ≡ []
 
 -- Some turns were made: the trace is the beginning of a run on one thread.
 pub record StopsTurning (limits : Limits) (trace trace' : List Mark) (g : Group) (made : ℕ) : Type 0 where
   pub longer : IsLonger trace trace'
-  pub so_far : (start : Group) (origin epoch : ℕ) → StandsAt start origin limits trace g made 0 epoch → IsSoloSoFar start origin limits trace'
-
--- a barrier is due
-abbrev pub IsDue : Limits → Group → ℕ → ℕ → Type 0
-IsDue limits g made since = (0 < since) × ((since ≡ limits.every) ⊎ ((made ≡ limits.turns) ⊎ (ready g ≡ [])))
+  pub so_far : (start : Group) (origin epoch : ℕ) → IsTraceAtRest start origin limits trace g made 0 epoch → IsSoloSoFar start origin limits trace'
 
 -- So many turns were made since the barrier.
 pub record HasTurned (limits : Limits) (trace trace' : List Mark) (g g' : Group) (made made' since : ℕ) : Type 0 where
   pub longer : IsLonger trace trace'
   pub made_is : made' ≡ made + since
   pub within : made' ≤ limits.turns
-  pub stands : (start : Group) (origin epoch : ℕ) → StandsAt start origin limits trace g made 0 epoch → StandsAt start origin limits trace' g' made' since epoch
+  pub stands : (start : Group) (origin epoch : ℕ) → IsTraceAtRest start origin limits trace g made 0 epoch → IsTraceAtRest start origin limits trace' g' made' since epoch
   pub grown : last_position g'.frame.out ≤ last_position g.frame.out + 1048576 * since
+  pub mark_is : g'.frame.out.mark ≡ g.frame.out.mark
 
 -- Turns up to the barrier, which is due.
 pub record ComesToBarrier (limits : Limits) (trace trace' : List Mark) (g g' : Group) (made made' : ℕ) : Type 0 where
@@ -72,13 +71,13 @@ pub record IsFetched (limits : Limits) (epoch : ℕ) (trace trace' : List Mark) 
   pub from_is : g'.frame.out.from ≡ g.frame.out.mark
 
 -- The commit of a group to a disk of so many blocks is planned, and what is known after it.
-pub record IsReady (count : ℕ) (g : Group) (k : KeptBlocks) (r : Ready) : Type 0 where
+pub record IsPlanned (count : ℕ) (g : Group) (k : KeptBlocks) (r : PlannedCommit) : Type 0 where
   pub plan : IsPlan count k.used.items (k.epoch + 1) g r.plan.blocks r.plan.body
-  pub next : IsAfter k (numbers r.plan.blocks) r.next
+  pub next : IsKeptAfter k r.plan.blocks r.next
 
 -- The group needs more blocks than are free.
 pub record NeedsMore (count : ℕ) (g : Group) (k : KeptBlocks) (need free : ℕ) : Type 0 where
-  pub free_is : free ≡ free_blocks count k.used.items
+  pub free_is : IsFreeCount count k.used.items free
   pub need_is : need ≡ cost_of g
   pub too_few : free < need
 
@@ -93,15 +92,15 @@ IsUnplanned count g k DiskFault = ⊥
 IsUnplanned count g k SinkFault = ⊥
 
 -- what stops leave during a commit after what is known to be kept
-abbrev pub LeavesKept : KeptBlocks → Group → DiskView → DiskView → Type 0
-LeavesKept k g disk disk' = ForSome disk.reading (λ r. (kept : Kept) → Knows k kept → Keeps r kept → LeavesOnly disk disk' (KeepsOrHolds kept g))
+abbrev pub LeavesNewestOrNext : KeptBlocks → Group → DiskView → DiskView → Type 0
+LeavesNewestOrNext k g disk disk' = ForSome disk.reading (λ r. (kept : NewestCheckpoint) → Describes k kept → HasNewest r kept → LeavesOnly disk disk' (HasNewestOrNext kept g))
 
 -- The commit failed.
 pub record IsUncommitted (k : KeptBlocks) (g : Group) (disk disk' : DiskView) : Type 0 where
   pub blocks : disk'.blocks ≡ disk.blocks
   pub writes : disk'.writes ≤ disk.writes + calls_for g
   pub later : disk.moment ≤ disk'.moment
-  pub leaves : LeavesKept k g disk disk'
+  pub leaves : LeavesNewestOrNext k g disk disk'
   pub rose : Rose disk.faults disk'.faults
 
 -- It was acknowledged: the plan is the disk's reading, and nothing else could be left.
@@ -110,7 +109,7 @@ pub record IsCommitted (k : KeptBlocks) (g : Group) (planned : List Block) (body
   pub writes : disk'.writes ≤ disk.writes + calls_for g
   pub later : disk.moment ≤ disk'.moment
   pub faults : disk.faults ≤ disk'.faults
-  pub leaves : LeavesKept k g disk disk'
+  pub leaves : LeavesNewestOrNext k g disk disk'
   pub only : OnlyReading disk'
   pub reads : Reads (finished k.target planned body) disk disk'
   pub trace_is : trace' ≡ trace ++ Ack (k.epoch + 1) ∷ []
@@ -127,9 +126,9 @@ EndsIn g (DiskFull need free) = ⊥
 EndsIn g NoMemory = ⊥
 
 -- what is kept when a run begins with this group: nothing, or its checkpoint
-abbrev pub IsFirstKept : Group → Kept → Type 0
-IsFirstKept g nothing = ⊤
-IsFirstKept g (checkpoint epoch h pages metas slot) = h ≡ g
+abbrev pub IsNewestAtStart : Group → NewestCheckpoint → Type 0
+IsNewestAtStart g nothing = ⊤
+IsNewestAtStart g (checkpoint epoch h pages metas slot) = h ≡ g
 
 -- what the output hasn't got of a group's
 abbrev pub rest_of : Out → SinkView → List ℕ
@@ -140,9 +139,20 @@ pub record ReleasesRest (o : Out) (out out' : SinkView) : Type 0 where
   pub taken : Takes (rest_of o out) out out'
   pub faults : out.faults ≤ out'.faults
 
--- The output failed, and took the first bytes of it.
+-- The output failed, and took the first bytes of it, not all.
 pub record ReleasesPart (o : Out) (out out' : SinkView) : Type 0 where
-  pub size : ℕ
-  pub within : size ≤ length (rest_of o out)
-  pub taken : Takes (take size (rest_of o out)) out out'
+  pub part : TakesPart (rest_of o out) out out'
   pub rose : Rose out.faults out'.faults
+
+-- A run's start and its limits have room; and what each such run is known to do.
+pub record IsStart (limits : Limits) (start : Group) (origin : ℕ) : Type 0 where
+  pub every : 1 ≤ limits.every
+  pub turns : limits.turns ≤ 1000000
+  pub checkpointed : IsCheckpointed start
+  pub epoch : origin ≤ 2 ^ 62
+  pub position : last_position start.frame.out ≤ 2 ^ 62
+  pub rests : RestsFollow start origin limits
+  pub epochs : EpochsHaveGroups start origin limits
+  pub parts : OutputHasParts start limits
+  pub lets_out : BarriersLetOut start origin limits
+  pub prefix : (marks : List Mark) → IsSoloSoFar start origin limits marks → IsSoloPrefix start origin limits marks

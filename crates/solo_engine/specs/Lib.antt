@@ -1,14 +1,2 @@
-pub mod Descriptors
-pub mod Engine
-pub mod Going
-pub mod Keeping
-pub mod Memory
-pub mod Registers
-pub mod Plans
-pub mod Taking
-pub mod Placing
-pub mod Known
-pub mod Safe
-pub mod Answers
-pub mod Origin
+-- What only private functions say.
 pub mod Interval

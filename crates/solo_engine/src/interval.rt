@@ -1,24 +1,26 @@
 //! The turns up to a barrier, the barrier, and the plan of its commit.
 ghost use Rattle.std.specs.Prelude.{◌≡◌, ◌≤◌, ◌<◌, ◌+◌, ◌*◌, ◌^◌, [], ◌∷◌, length, IfOk, IfErr, OnOk, OnErr};
 ghost use Rattle.std.specs.Vec.{vec_capacity, vec_len};
-ghost use Rattle.group_defs.specs.Legal.{ready as ready_in};
+ghost use Rattle.run_defs.specs.Legal.{ready as ready_in};
 ghost use Rattle.group_defs.specs.Output.{last_position};
 ghost use Rattle.ckpt_records.specs.Holds.{IsCheckpointed};
 ghost use Rattle.std.specs.List.{AllByRecursion};
 ghost use Rattle.group_defs.specs.Valid.{GroupIsValid};
-ghost use Rattle.solo_engine.specs.Engine.{group_in, IsRunnable};
-ghost use Rattle.solo_engine.specs.Plans.{ArePagesOf, IsPlanRefused};
-ghost use Rattle.solo_engine.specs.Interval.{ComesToBarrier, IsFetched, IsReady, IsUnplanned, StopsTurning};
+ghost use Rattle.group_kernel.specs.Engine.{group_in, IsRunnable};
+ghost use Rattle.ckpt_records.specs.Pages.{ArePagesOf};
+ghost use Rattle.page_flusher.specs.Plans.{IsPlanRefused};
+ghost use Rattle.solo_engine.specs.Interval.{ComesToBarrier, IsFetched, IsPlanned, IsUnplanned, StopsTurning};
 
-use crate::engine_group::EngineGroup;
-use crate::freezing::{frame_of, mark_output, pages_of};
-use crate::kept::KeptBlocks;
 use crate::log::Log;
-use crate::plan::{Page, Plan, PlanRefused, plan_commit};
-use crate::run::RunAnswer;
-use crate::turns::{is_ready, turn};
-use group_defs::{Frame, Limits, Mark};
+use ckpt_records::Page;
+use group_defs::Frame;
+use group_kernel::laws::output_is_the_groups;
+use group_kernel::{EngineGroup, frame_of, is_ready, mark_output, pages_of, turn};
 use lists::NoMemory;
+use page_flusher::{KeptBlocks, Plan, PlanRefused, plan_commit};
+use run_defs::laws::one_trace_on_one_thread;
+use run_defs::{Limits, Mark};
+use sls_core::RunAnswer;
 use std::alloc::Global;
 
 /// Turns until a barrier is due: how many were made in the run.
@@ -36,10 +38,10 @@ fn turns_to_barrier(
     requires turns { limits.turns ≤ 1000000 }
     ensures comes { IfOk result (λ n. ComesToBarrier limits trace.old.items trace.new.items (group_in g.old) (group_in g.new) made n) }
     ensures runnable { OnOk result (IsRunnable (group_in g.new)) }
-    ensures from { OnOk result (g.new.out.from ≡ g.old.out.from) }
-    ensures mark { OnOk result (g.new.out.mark ≡ g.old.out.mark) }
     ensures err { OnErr result (StopsTurning limits trace.old.items trace.new.items (group_in g.old) made) }
 {
+    one_trace_on_one_thread();
+    output_is_the_groups();
     for since in 0..limits.every {
         if made + since >= limits.turns || !is_ready(g) {
             return Ok(made + since);
@@ -83,7 +85,7 @@ pub fn turn_to_fetch(
 {
     let made = turns_to_barrier(&mut engine.group, limits, engine.made, &mut log.trace)?;
     engine.made = made;
-    mark_output(alloc, &mut engine.group)?;
+    mark_output(alloc, &mut engine.group);
     log.reserve()?;
     log.fetch(engine.kept.epoch + 1);
     Ok(())
@@ -91,7 +93,7 @@ pub fn turn_to_fetch(
 
 /// What a commit writes, and what is known after it.
 #[derive(Drop)]
-pub struct Ready {
+pub struct PlannedCommit {
     pub plan: Plan,
     pub next: KeptBlocks,
 }
@@ -114,7 +116,7 @@ fn plan_of(
     engine: &Engine,
     frame: &Frame,
     pages: Vec<Page>,
-) -> Result<Ready, PlanRefused>
+) -> Result<PlannedCommit, PlanRefused>
     requires least { 16 ≤ count }
     requires most { count ≤ 2 ^ 20 }
     requires checkpointed { IsCheckpointed (group_in engine.now.group) }
@@ -122,7 +124,7 @@ fn plan_of(
     requires frame { frame.now ≡ (group_in engine.now.group).frame }
     requires pages { ArePagesOf (group_in engine.now.group) pages.items }
     requires whole { AllByRecursion (λ p. length p.bytes ≡ 4096) pages.items }
-    ensures ready { IfOk result (λ ready. IsReady count (group_in engine.now.group) engine.now.kept ready) }
+    ensures ready { IfOk result (λ ready. IsPlanned count (group_in engine.now.group) engine.now.kept ready) }
     ensures refused { IfErr result (λ refused. IsPlanRefused count engine.now.kept.used.items frame.now pages.items refused) }
 {
     let epoch = engine.kept.epoch + 1;
@@ -131,18 +133,22 @@ fn plan_of(
         Err(refused) => return Err(refused),
     };
     match engine.kept.after(alloc, plan.blocks.as_slice()) {
-        Ok(next) => Ok(Ready { plan, next }),
+        Ok(next) => Ok(PlannedCommit { plan, next }),
         Err(NoMemory) => Err(PlanRefused::NoMemory),
     }
 }
 
 /// Plans the commit of the group at its barrier to a disk of so many blocks.
-pub fn ready_commit(alloc: Global, count: u64, engine: &Engine) -> Result<Ready, RunAnswer>
+pub fn planned_commit(
+    alloc: Global,
+    count: u64,
+    engine: &Engine,
+) -> Result<PlannedCommit, RunAnswer>
     requires least { 16 ≤ count }
     requires most { count ≤ 2 ^ 20 }
     requires checkpointed { IsCheckpointed (group_in engine.now.group) }
     requires epoch { engine.now.kept.epoch < 2 ^ 63 }
-    ensures ready { IfOk result (λ ready. IsReady count (group_in engine.now.group) engine.now.kept ready) }
+    ensures ready { IfOk result (λ ready. IsPlanned count (group_in engine.now.group) engine.now.kept ready) }
     ensures refused { IfErr result (λ answer. IsUnplanned count (group_in engine.now.group) engine.now.kept answer) }
 {
     let (frame, pages) = match freeze(alloc, &engine.group) {

@@ -2,8 +2,8 @@
 ghost use Rattle.std.specs.Prelude.{◌≡◌, ◌≤◌, ◌<◌, ◌+◌, [], ◌∷◌, ◌++◌, OnOk, OnErr};
 ghost use Rattle.std.specs.Vec.{vec_capacity, vec_len};
 
-use group_defs::{AckMark, Mark};
 use lists::NoMemory;
+use run_defs::{AckMark, Mark};
 use std::alloc::Global;
 
 /// What a run has logged so far.

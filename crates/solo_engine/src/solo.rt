@@ -1,34 +1,35 @@
 //! A run on one thread.
-ghost use Rattle.std.specs.Prelude.{◌≡◌, ◌⊎◌, ◌≤◌, ◌<◌, ◌^◌, false, [], ◌∷◌, IfOk, OnOk, OnErr, IsTrue};
+ghost use Rattle.std.specs.Prelude.{◌≡◌, ◌⊎◌, ◌≤◌, ◌<◌, ◌^◌, ℕ, false, [], ◌∷◌, IfOk, OnOk, OnErr, IsTrue};
 ghost use Rattle.std.specs.Option.{ForSome};
 ghost use Rattle.dev_traits.specs.Disk.{OnlyReading};
-ghost use Rattle.group_defs.specs.Legal.{ready as ready_in};
+ghost use Rattle.run_defs.specs.Legal.{ready as ready_in};
+ghost use Rattle.group_defs.specs.Group.{Group};
 ghost use Rattle.group_defs.specs.Output.{last_position};
 ghost use Rattle.ckpt_records.specs.Holds.{IsCheckpointed};
-ghost use Rattle.restore_group.specs.Parts.{group_of, HasLayers};
-ghost use Rattle.solo_engine.specs.Answers.{HasRun};
-ghost use Rattle.solo_engine.specs.Engine.{group_in};
-ghost use Rattle.solo_engine.specs.Interval.{EndsIn, IsFirstKept, ReleasesPart, ReleasesRest};
-ghost use Rattle.solo_engine.specs.Keeping.{Keeps, Kept};
-ghost use Rattle.solo_engine.specs.Known.{IsKeptOf, Knows, KnowsGates};
-ghost use Rattle.solo_engine.specs.Origin.{HasSize, IsOrigin, IsOriginOf, IsUnworn, IsWithin};
-ghost use Rattle.solo_engine.specs.Safe.{run_of};
-ghost use Rattle.group_defs.specs.Sizes.{LimitsFit};
+ghost use Rattle.ckpt_records.specs.Parts.{group_of, HasLayers};
+ghost use Rattle.sls_core.specs.Answers.{IsSoloRun};
+ghost use Rattle.group_kernel.specs.Engine.{group_in};
+ghost use Rattle.solo_engine.specs.Interval.{EndsIn, IsNewestAtStart, IsStart, ReleasesPart, ReleasesRest};
+ghost use Rattle.ckpt_records.specs.Newest.{HasNewest, NewestCheckpoint};
+ghost use Rattle.page_flusher.specs.KeptBlocks.{DescribesOrigin, Describes, DescribesGates};
+ghost use Rattle.ckpt_records.specs.Origin.{HasSize, IsOrigin, IsOriginOf, IsUnworn, IsWithin};
+ghost use Rattle.sls_core.specs.Safe.{run_of};
+ghost use Rattle.run_defs.specs.Limits.{LimitsFit};
 
-use crate::engine_group::EngineGroup;
-use crate::interval::{Engine, ready_commit, turn_to_fetch};
-use crate::kept::KeptBlocks;
+use crate::interval::{Engine, planned_commit, turn_to_fetch};
 use crate::log::Log;
-use crate::parts::engine_group;
 use crate::persisting::persist;
-use crate::release::release;
-use crate::run::{Run, RunAnswer};
-use crate::turns::is_ready;
 use ckpt_records::Origin;
 use commit_gate::BadDisk;
-use dev_traits::{Disk, Failed, Sink};
-use group_defs::Limits;
+use dev_traits::{Disk, Failed, Sink, put_all};
+use group_defs::Out;
+use group_kernel::laws::output_is_the_groups;
+use group_kernel::{EngineGroup, group_from, is_ready};
 use lists::{NoMemory, Seq};
+use page_flusher::KeptBlocks;
+use run_defs::Limits;
+use run_defs::laws::{marks_follow_marks, one_trace_on_one_thread, output_only_grows};
+use sls_core::{Run, RunAnswer};
 use std::alloc::Global;
 
 /// Whether no turn is left: no process runs that doesn't wait, or all turns are made.
@@ -55,19 +56,41 @@ fn end_of(group: &EngineGroup) -> RunAnswer
     }
 }
 
-/// Releases what the sink hasn't got of a group's output.
-fn release_rest<O: Sink>(out: &mut O, group: &EngineGroup) -> Result<(), Failed>
-    requires first { group.now.out.from ≤ (O.view out.old).count }
-    requires last { (O.view out.old).count ≤ last_position group.now.out }
-    ensures ok { OnOk result (ReleasesRest group.now.out (O.view out.old) (O.view out.new)) }
-    ensures err { OnErr result (ReleasesPart group.now.out (O.view out.old) (O.view out.new)) }
+/// Releases what the sink hasn't got of an output.
+fn release<O: Sink>(out: &mut O, from: &Out) -> Result<(), Failed>
+    requires first { from.now.from ≤ (O.view out.old).count }
+    requires last { (O.view out.old).count ≤ last_position from.now }
+    ensures ok { OnOk result (ReleasesRest from.now (O.view out.old) (O.view out.new)) }
+    ensures err { OnErr result (ReleasesPart from.now (O.view out.old) (O.view out.new)) }
 {
-    let released = (out.taken() - group.out.from) as usize;
-    release(out, &group.out.bytes.as_slice()[released..])
+    let released = (out.taken() - from.from) as usize;
+    put_all(out, &from.bytes.as_slice()[released..])
+}
+
+/// The same of a group's output.
+fn release_rest<O: Sink>(out: &mut O, group: &EngineGroup) -> Result<(), Failed>
+    requires first { (group_in group.now).frame.out.from ≤ (O.view out.old).count }
+    requires last { (O.view out.old).count ≤ last_position (group_in group.now).frame.out }
+    ensures ok { OnOk result (ReleasesRest (group_in group.now).frame.out (O.view out.old) (O.view out.new)) }
+    ensures err { OnErr result (ReleasesPart (group_in group.now).frame.out (O.view out.old) (O.view out.new)) }
+{
+    output_is_the_groups();
+    release(out, &group.out)
+}
+
+// What is known of each run with such limits, for contracts alone.
+fn run_laws(_limits: Limits)
+    requires { LimitsFit _limits }
+    ensures { (start : Group) (origin : ℕ) → IsCheckpointed start → origin ≤ 2 ^ 62
+        → last_position start.frame.out ≤ 2 ^ 62 → IsStart _limits start origin }
+{
+    marks_follow_marks();
+    output_only_grows();
+    one_trace_on_one_thread();
 }
 
 /// Intervals until the run is over, each with its barrier, its commit and its release.
-fn go<D: Disk, O: Sink>(
+fn run_to_end<D: Disk, O: Sink>(
     alloc: Global,
     limits: Limits,
     engine: Engine,
@@ -80,15 +103,16 @@ fn go<D: Disk, O: Sink>(
     requires only { OnlyReading (D.view disk) }
     requires checkpointed { IsCheckpointed (group_in engine.group) }
     requires first { engine.made ≡ 0 }
-    requires kept { (kept : Kept) × Knows engine.kept kept × IsFirstKept (group_in engine.group) kept × ForSome (D.view disk).reading (λ r. Keeps r kept) }
-    requires gates { ForSome (D.view disk).reading (λ r. KnowsGates engine.kept r) }
+    requires kept { (kept : NewestCheckpoint) × Describes engine.kept kept × IsNewestAtStart (group_in engine.group) kept × ForSome (D.view disk).reading (λ r. HasNewest r kept) }
+    requires gates { ForSome (D.view disk).reading (λ r. DescribesGates engine.kept r) }
     requires epoch { engine.kept.epoch ≤ 2 ^ 62 }
-    requires position { last_position engine.group.out ≤ 2 ^ 62 }
-    requires least { engine.group.out.from ≤ (O.view out.old).count }
-    requires most { (O.view out.old).count ≤ last_position engine.group.out }
+    requires position { last_position (group_in engine.group).frame.out ≤ 2 ^ 62 }
+    requires least { (group_in engine.group).frame.out.from ≤ (O.view out.old).count }
+    requires most { (O.view out.old).count ≤ last_position (group_in engine.group).frame.out }
     requires unlogged { (log.old.trace.items ≡ []) × (log.old.acks.items ≡ []) }
-    ensures { HasRun (run_of limits (group_in engine.group) engine.kept.epoch log.new.trace.items) log.new.acks.items (D.view disk) (D.view result.0) (O.view out.old) (O.view out.new) result.1 }
+    ensures { IsSoloRun (run_of limits (group_in engine.group) engine.kept.epoch log.new.trace.items) (D.view disk).moment log.new.acks.items (D.view disk) (D.view result.0) (O.view out.old) (O.view out.new) result.1 }
 {
+    run_laws(limits);
     let mut engine = engine;
     let mut disk = disk;
     if release_rest(out, &engine.group).is_err() {
@@ -98,7 +122,7 @@ fn go<D: Disk, O: Sink>(
         if turn_to_fetch(alloc, limits, &mut engine, log).is_err() {
             return (disk, RunAnswer::NoMemory);
         }
-        let ready = match ready_commit(alloc, disk.blocks(), &engine) {
+        let ready = match planned_commit(alloc, disk.blocks(), &engine) {
             Ok(ready) => ready,
             Err(answer) => return (disk, answer),
         };
@@ -120,7 +144,7 @@ fn engine_of(alloc: Global, origin: Origin) -> Result<Engine, NoMemory>
     requires group { IsCheckpointed (group_of origin.parts) }
     ensures group { IfOk result (λ e. group_in e.group ≡ group_of origin.parts) }
     ensures made { IfOk result (λ e. e.made ≡ 0) }
-    ensures kept { IfOk result (λ e. IsKeptOf origin e.kept) }
+    ensures kept { IfOk result (λ e. DescribesOrigin origin e.kept) }
 {
     let Origin {
         epoch,
@@ -129,7 +153,7 @@ fn engine_of(alloc: Global, origin: Origin) -> Result<Engine, NoMemory>
         gates,
     } = origin;
     let kept = KeptBlocks::of(alloc, epoch, &placement, gates)?;
-    let group = engine_group(alloc, parts)?;
+    let group = group_from(alloc, parts)?;
     Ok(Engine {
         group,
         made: 0,
@@ -170,14 +194,15 @@ pub fn run_solo<D: Disk, O: Sink>(
     requires held { ForSome (D.view disk).reading (λ r. IsOriginOf r origin) }
     requires unworn { IsUnworn origin.epoch origin.parts.frame }
     requires count { IsWithin (O.view out) origin.parts.frame.out }
-    ensures run { HasRun (run_of limits (group_of origin.parts) origin.epoch result.trace) result.acks (D.view disk) (D.view result.disk) (O.view out) (O.view result.out) result.answer }
+    ensures run { IsSoloRun (run_of limits (group_of origin.parts) origin.epoch result.trace) (D.view disk).moment result.acks (D.view disk) (D.view result.disk) (O.view out) (O.view result.out) result.answer }
 {
+    run_laws(limits);
     let mut out = out;
     let mut log = Log::new(alloc);
     let engine = match engine_of(alloc, origin) {
         Ok(engine) => engine,
         Err(NoMemory) => return ended(RunAnswer::NoMemory, log, disk, out),
     };
-    let (disk, answer) = go(alloc, limits, engine, disk, &mut out, &mut log);
+    let (disk, answer) = run_to_end(alloc, limits, engine, disk, &mut out, &mut log);
     ended(answer, log, disk, out)
 }

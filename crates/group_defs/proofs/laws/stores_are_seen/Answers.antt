@@ -1,5 +1,5 @@
 use Rattle.group_defs.proofs.Inside.{valid_inside}
-use Rattle.group_defs.proofs.Seen.{stored_writes}
+use Rattle.group_defs.proofs.Seen.{seen_by_all, stored_writes}
 use Rattle.group_defs.proofs.laws.stores_are_seen.Goals as goal
 
 pub returns-clause-inside : goal.returns-clause-inside
@@ -7,3 +7,6 @@ returns-clause-inside c = valid_inside
 
 pub returns-clause-seen : goal.returns-clause-seen
 returns-clause-seen c = stored_writes
+
+pub returns-clause-by_all : goal.returns-clause-by_all
+returns-clause-by_all c = seen_by_all

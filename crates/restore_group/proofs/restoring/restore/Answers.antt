@@ -6,7 +6,7 @@ use Rattle.restore_group.proofs.restoring.restore.Goals as goal
 pub returns-in-Err-meta_of-clause-outcome : goal.returns-in-Err-meta_of-clause-outcome
 returns-in-Err-meta_of-clause-outcome g c = λ image told.
     let size = blocks_are image _ (g.met.D.Disk.image_size _ _ image (g.met.D.Disk.reading_left _ image told)) ∙ sym c.in-Ok.ensures.disk.blocks in
-    let opened = sym (c.in-Ok.ensures.found image told) ∙ c.in-Some.is in
+    let opened = sym (c.in-Ok.ensures.newest image told) ∙ c.in-Some.is in
     let told' = c.in-Ok.ensures.disk.reading ∙ told in
     rw c.refusal.ensures (meta_refused image _ size c.in-Some.slot c.in-Some.body opened c.in-Err-meta_of.refused (λ e. c.in-Err-meta_of.ensures.only image told' (ap (λ r. Err r) e)))
 
@@ -21,7 +21,7 @@ read_layers-requires-clause-placed g c =
 pub returns-in-Err-read_layers-clause-outcome : goal.returns-in-Err-read_layers-clause-outcome
 returns-in-Err-read_layers-clause-outcome g c = λ image told.
     let size = blocks_are image _ (g.met.D.Disk.image_size _ _ image (g.met.D.Disk.reading_left _ image told)) ∙ sym c.in-Ok.ensures.disk.blocks in
-    let opened = sym (c.in-Ok.ensures.found image told) ∙ c.in-Some.is in
+    let opened = sym (c.in-Ok.ensures.newest image told) ∙ c.in-Some.is in
     let told' = c.in-Ok.ensures.disk.reading ∙ told in
     let told'' = c.in-Ok-meta_of.ensures.disk.reading ∙ told' in
     let only = rw c.as_slice-2.ensures at (c.in-Err-read_layers.ensures.only image told'') in
@@ -35,7 +35,7 @@ returns-in-Err-read_layers-clause-cause g c =
 pub returns-clause-outcome : goal.returns-clause-outcome
 returns-clause-outcome g c = λ image told.
     let size = blocks_are image _ (g.met.D.Disk.image_size _ _ image (g.met.D.Disk.reading_left _ image told)) ∙ sym c.in-Ok.ensures.disk.blocks in
-    let opened = sym (c.in-Ok.ensures.found image told) ∙ c.in-Some.is in
+    let opened = sym (c.in-Ok.ensures.newest image told) ∙ c.in-Some.is in
     let told' = c.in-Ok.ensures.disk.reading ∙ told in
     let told'' = c.in-Ok-meta_of.ensures.disk.reading ∙ told' in
     let are = rw (c.as_slice.ensures, c.as_slice-2.ensures) at c.in-Ok-read_layers.ensures.layers in

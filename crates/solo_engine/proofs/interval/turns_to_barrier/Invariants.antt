@@ -1,5 +1,5 @@
 use Rattle.std.proofs.Common.{◌≡◌, ◌+◌}
-use Rattle.solo_engine.specs.Engine.{group_in, IsRunnable}
+use Rattle.group_kernel.specs.Engine.{group_in, IsRunnable}
 use Rattle.solo_engine.specs.Interval.{HasTurned}
 use Rattle.solo_engine.proofs.interval.turns_to_barrier.Given as goal
 
@@ -8,7 +8,5 @@ invariant-loop-since l = record {
   turned : HasTurned l.limits l.initial.trace.items l.trace.items (group_in l.initial.g) (group_in l.g) l.made (l.made + l.since) l.since;
   runnable : IsRunnable (group_in l.g);
   fixed : l.g.fixed ≡ l.initial.g.fixed;
-  from_is : l.g.out.from ≡ l.initial.g.out.from;
-  mark_is : l.g.out.mark ≡ l.initial.g.out.mark;
   first : l.since ≡ 0 → group_in l.g ≡ group_in l.initial.g;
 }

@@ -1,9 +1,9 @@
 use Rattle.std.proofs.Common.{◌≡◌, ◌+◌, ap, ◌∙◌, subst, List, ◌∷◌, ◌++◌, []}
 use Rattle.dev_traits.specs.Since.{LeavesOnly}
-use Rattle.group_defs.specs.declared.run.Mark.TheVariants.{Ack}
+use Rattle.run_defs.specs.declared.run.Mark.TheVariants.{Ack}
 use Rattle.commit_gate.specs.Whole.{IsDuring, Reads, UpTo, calls_more, finished, write_calls}
 use Rattle.commit_gate.specs.declared.whole.Block.{Block}
-use Rattle.solo_engine.proofs.Committing.{leaves_kept}
+use Rattle.solo_engine.proofs.Committing.{gate_read, leaves_kept}
 use Rattle.solo_engine.proofs.WriteLaws.{committed_calls, failed_calls}
 use Rattle.solo_engine.proofs.persisting.persist.Goals as goal
 
@@ -18,8 +18,9 @@ returns-in-Ok-clause-committed g c =
       writes = committed_calls group c.closes.result r.plan.blocks before.writes after.writes ready.plan.size (subst (λ (l : List Block). after.writes ≡ calls_more (write_calls c.closes.result l) before.writes) c.as_slice-blocks.ensures c.in-Ok.ensures.writes);
       later = c.in-Ok.ensures.images.later;
       faults = c.in-Ok.ensures.later;
-      leaves = leaves_kept before.blocks group k r before after ready (λ bytes told. g.met.D.Disk.image_size c.args.disk _ bytes (g.met.D.Disk.reading_left c.args.disk bytes told))
-          (subst (λ (l : List Block). LeavesOnly before after (IsDuring k.target l r.plan.body before.reading)) c.as_slice-blocks.ensures c.in-Ok.ensures.images);
+      leaves = leaves_kept before.blocks group k r c.closes.result before after ready c.requires.sized.0 (λ bytes told. g.met.D.Disk.image_size c.args.disk _ bytes (g.met.D.Disk.reading_left c.args.disk bytes told))
+          (gate_read k before c.requires.gates c.closes.ensures)
+          (subst (λ (l : List Block). LeavesOnly before after (IsDuring k.target c.closes.result l r.plan.body before.reading)) c.as_slice-blocks.ensures c.in-Ok.ensures.images);
       only = c.in-Ok.ensures.only;
       reads = subst (λ (l : List Block). Reads (finished k.target l r.plan.body) before after) c.as_slice-blocks.ensures c.in-Ok.ensures.done;
       trace_is = c.acknowledge.ensures.trace ∙ ap (λ e. c.args.log.now.trace.items ++ Ack e ∷ []) ready.next.epoch;
@@ -37,7 +38,8 @@ returns-in-Err-clause-uncommitted g c =
       blocks = c.in-Err.ensures.blocks_err;
       writes = failed_calls group c.closes.result r.plan.blocks before.writes after.writes ready.plan.size (subst (λ (l : List Block). UpTo (write_calls c.closes.result l) before.writes after.writes) c.as_slice-blocks.ensures c.in-Err.ensures.writes_err);
       later = c.in-Err.ensures.images_err.later;
-      leaves = leaves_kept before.blocks group k r before after ready (λ bytes told. g.met.D.Disk.image_size c.args.disk _ bytes (g.met.D.Disk.reading_left c.args.disk bytes told))
-          (subst (λ (l : List Block). LeavesOnly before after (IsDuring k.target l r.plan.body before.reading)) c.as_slice-blocks.ensures c.in-Err.ensures.images_err);
+      leaves = leaves_kept before.blocks group k r c.closes.result before after ready c.requires.sized.0 (λ bytes told. g.met.D.Disk.image_size c.args.disk _ bytes (g.met.D.Disk.reading_left c.args.disk bytes told))
+          (gate_read k before c.requires.gates c.closes.ensures)
+          (subst (λ (l : List Block). LeavesOnly before after (IsDuring k.target c.closes.result l r.plan.body before.reading)) c.as_slice-blocks.ensures c.in-Err.ensures.images_err);
       rose = c.in-Err.ensures.cause;
     }

@@ -1,6 +1,0 @@
-use Rattle.std.proofs.Common.{◌≤◌, take}
-use Rattle.std.specs.List.{AllByRecursion}
-use Rattle.aurora_top.proofs.manifest.is_printed.Given as goal
-
-abbrev pub invariant-loop-b : goal.invariant-loop-b
-invariant-loop-b l = AllByRecursion (λ b. (33 ≤ b) × (b ≤ 126)) (take l.b-index l.name)

@@ -1,0 +1,4 @@
+pub mod LimitLaws
+pub mod ReadingLaws
+pub mod SaidLaws
+pub mod Saying

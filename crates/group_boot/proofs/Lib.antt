@@ -1,0 +1,3 @@
+pub mod FlatValid
+pub mod ImagePages
+pub mod FirstOrigin

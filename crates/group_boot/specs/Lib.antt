@@ -1,0 +1,3 @@
+pub mod Flat
+pub mod Manifest
+pub mod Causes

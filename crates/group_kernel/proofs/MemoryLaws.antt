@@ -1,0 +1,238 @@
+-- What fits goes on fitting, and a valid group's memory fits.
+use Rattle.std.proofs.Common.{◌≡◌, ℕ, zero, suc, ◌+◌, ◌*◌, ◌<◌, ◌≤◌, ◌==◌, Bool, true, false, List, [], ◌∷◌, length, map, get_or, set, Option, Some, None, refl, sym, ap, ◌∙◌, subst, arith, length-set}
+use Rattle.std.specs.Prelude.{if◌then◌else◌, All}
+use Rattle.std.specs.List.{find, AllZip}
+use Rattle.std.specs.Int.{bytes_low_first, byte_at}
+use Rattle.std.proofs.lemmas.List.{get_or-map, length-map}
+use Rattle.std.proofs.lemmas.List.Elements.{All-set, All-nil, All-cons, All-head, All-tail, All-weaker}
+use Rattle.rv64_isa.specs.Memory.{Write}
+use Rattle.rv64_isa.specs.Numbers.{bytes_of, wrapped}
+use Rattle.group_defs.specs.declared.frame.ObjectRec.{ObjectRec}
+use Rattle.group_defs.specs.declared.frame.Proc.{Proc}
+use Rattle.address_maps.specs.declared.maps.Mapping.{Mapping}
+use Rattle.address_maps.specs.Mappings.{has, mapping_at, end_of}
+use Rattle.group_defs.specs.Built.{IsAlone}
+use Rattle.group_defs.specs.Cells.{bytes_in, object_place, with_byte, with_byte_at, with_stored, with_writes, AllInside}
+use Rattle.group_defs.specs.Group.{Group}
+use Rattle.tables.specs.Lists.{on_first}
+use Rattle.group_defs.specs.Mappings.{IsUserMapping, IsInside, MappingsValid}
+use Rattle.lists.specs.Bytes.{AreBytes}
+use Rattle.tables.specs.Rising.{Rise}
+use Rattle.group_defs.specs.Sizes.{MemoryWithinLimits as FrameMemoryFits}
+use Rattle.group_defs.specs.Valid.{IsObject, GroupIsValid}
+use Rattle.group_kernel.specs.Memory.{TableFits, shape}
+use Rattle.group_kernel.proofs.MemoryReads.{entry_at, found_has}
+
+-- ---- numbers and lengths
+
+abbrev size_of : Option (ℕ × ℕ) → ℕ
+size_of None = 0
+size_of (Some s) = s.1
+
+size_is : (memory : List (ℕ × List ℕ)) (n : ℕ) → length (bytes_in memory n) ≡ size_of (find (λ s. s.0 == n) (shape memory))
+size_is [] n = refl
+size_is (o ∷ os) n = by_test (size_is os n) (o.0 == n) refl
+  where
+    by_test : length (bytes_in os n) ≡ size_of (find (λ s. s.0 == n) (shape os)) → (t : Bool) → (o.0 == n) ≡ t → length (bytes_in (o ∷ os) n) ≡ size_of (if t then Some (o.0, length o.1) else find (λ s. s.0 == n) (shape os))
+    by_test rest true e = rw (bytes_in, e) refl
+    by_test rest false e = rw (bytes_in, e) rest
+
+abbrev pub sized : ℕ × List ℕ → ℕ × ℕ
+sized o = (o.0, length o.1)
+
+rise_shape : (memory : List (ℕ × List ℕ)) → Rise (λ o. o.0) memory → Rise (λ s. s.0) (shape memory)
+unfolding Rise
+rise_shape memory rise i j d less end =
+    let lt : j < length memory = omega (arith, end, length-map memory sized) in
+    let low : (get_or (shape memory) i d).0 ≡ (get_or memory i (0, [])).0 = ap (λ (s : ℕ × ℕ). s.0) (get_or-map sized memory i (0, []) d (omega (arith, less, lt))) in
+    let high : (get_or (shape memory) j d).0 ≡ (get_or memory j (0, [])).0 = ap (λ (s : ℕ × ℕ). s.0) (get_or-map sized memory j (0, []) d lt) in
+    omega (arith, low, high, rise i j (0, []) less lt)
+
+shape_rise : (memory : List (ℕ × List ℕ)) → Rise (λ s. s.0) (shape memory) → Rise (λ o. o.0) memory
+unfolding Rise
+shape_rise memory rise i j d less end =
+    let lt : j < length (shape memory) = omega (arith, end, length-map memory sized) in
+    let low : (get_or (shape memory) i (0, 0)).0 ≡ (get_or memory i d).0 = ap (λ (s : ℕ × ℕ). s.0) (get_or-map sized memory i d (0, 0) (omega (arith, less, end))) in
+    let high : (get_or (shape memory) j (0, 0)).0 ≡ (get_or memory j d).0 = ap (λ (s : ℕ × ℕ). s.0) (get_or-map sized memory j d (0, 0) end) in
+    omega (arith, low, high, rise i j (0, 0) less lt)
+
+-- no object has more bytes than its limit
+abbrev IsSmall : ℕ × ℕ → Type 0
+IsSmall s = s.1 ≤ 4096 * 16384
+
+shape_sizes : (memory : List (ℕ × List ℕ)) → All IsSmall (shape memory) → All (λ o. length o.1 ≤ 4096 * 16384) memory
+shape_sizes memory small k d end =
+    let lt : k < length (shape memory) = omega (arith, end, length-map memory sized) in
+    let e : (get_or (shape memory) k (0, 0)).1 ≡ length (get_or memory k d).1 = ap (λ (s : ℕ × ℕ). s.1) (get_or-map sized memory k d (0, 0) end) in
+    omega (arith, e, small k (0, 0) lt)
+
+sizes_shape : (memory : List (ℕ × List ℕ)) → All (λ o. length o.1 ≤ 4096 * 16384) memory → All IsSmall (shape memory)
+sizes_shape memory small k d end =
+    let lt : k < length memory = omega (arith, end, length-map memory sized) in
+    let e : (get_or (shape memory) k d).1 ≡ length (get_or memory k (0, [])).1 = ap (λ (s : ℕ × ℕ). s.1) (get_or-map sized memory k (0, []) d lt) in
+    omega (arith, e, small k (0, []) lt)
+
+-- a table of the same numbers and lengths fits as well
+pub fits_shape : (a b : List (ℕ × List ℕ)) (maps : List Mapping) → shape b ≡ shape a → All (λ o. AreBytes o.1) b → TableFits a maps → TableFits b maps
+fits_shape a b maps same bytes fits = record {
+  placed = fits.placed;
+  apart = fits.apart;
+  unshared = fits.unshared;
+  inside = λ k d lt.
+      let m = get_or maps k d in
+      let e : length (bytes_in b m.object) ≡ length (bytes_in a m.object) = size_is b m.object ∙ ap (λ (l : List (ℕ × ℕ)). size_of (find (λ s. s.0 == m.object) l)) same ∙ sym (size_is a m.object) in
+      omega (arith, e, fits.inside k d lt);
+  rise = shape_rise b (subst (λ (l : List (ℕ × ℕ)). Rise (λ s. s.0) l) (sym same) (rise_shape a fits.rise));
+  bytes = bytes;
+  sizes = shape_sizes b (subst (All IsSmall) (sym same) (sizes_shape a fits.sizes));
+}
+
+-- ---- what stores leave
+
+shape_byte : (memory : List (ℕ × List ℕ)) (object p b : ℕ) → shape (with_byte memory object p b) ≡ shape memory
+unfolding on_first
+shape_byte [] object p b = refl
+shape_byte (o ∷ os) object p b = by_test (shape_byte os object p b) (o.0 == object) refl
+  where
+    by_test : shape (with_byte os object p b) ≡ shape os → (t : Bool) → (o.0 == object) ≡ t → shape (if t then (object, set o.1 p b) ∷ os else o ∷ with_byte os object p b) ≡ sized o ∷ shape os
+    by_test rest true e =
+        let same : object ≡ o.0 = grind (arith, e) in
+        ap (λ (n : ℕ). (n, length (set o.1 p b)) ∷ shape os) same ∙ ap (λ (n : ℕ). (o.0, n) ∷ shape os) (length-set o.1 p b)
+    by_test rest false e = ap (λ (l : List (ℕ × ℕ)). sized o ∷ l) rest
+
+shape_byte_at : (memory : List (ℕ × List ℕ)) (o : Option Mapping) (a b : ℕ) → shape (with_byte_at memory o a b) ≡ shape memory
+shape_byte_at memory None a b = refl
+shape_byte_at memory (Some m) a b = shape_byte memory m.object (object_place m a) b
+
+-- stores leave numbers and lengths
+pub shape_bytes : (memory : List (ℕ × List ℕ)) (maps : List Mapping) (a : ℕ) (bytes : List ℕ) → shape (with_stored memory maps a bytes) ≡ shape memory
+unfolding with_stored
+shape_bytes memory maps a [] = refl
+shape_bytes memory maps a (b ∷ bs) =
+    shape_bytes (with_byte_at memory (mapping_at maps (wrapped a)) (wrapped a) b) maps (a + 1) bs ∙ shape_byte_at memory (mapping_at maps (wrapped a)) (wrapped a) b
+
+pub shape_writes : (memory : List (ℕ × List ℕ)) (maps : List Mapping) (writes : List Write) → shape (with_writes memory maps writes) ≡ shape memory
+unfolding with_writes
+shape_writes memory maps [] = refl
+shape_writes memory maps (w ∷ ws) = shape_writes (with_stored memory maps w.address w.bytes) maps ws ∙ shape_bytes memory maps w.address w.bytes
+
+abbrev HasBytes : ℕ × List ℕ → Type 0
+HasBytes o = AreBytes o.1
+
+byte_set : (xs : List ℕ) (p b : ℕ) → b < 256 → AreBytes xs → AreBytes (set xs p b)
+unfolding AreBytes
+byte_set xs p b small all = All-set (λ x. x < 256) xs p b small all
+
+bytes_byte : (memory : List (ℕ × List ℕ)) (object p b : ℕ) → b < 256 → All HasBytes memory → All HasBytes (with_byte memory object p b)
+unfolding on_first
+bytes_byte [] object p b small all = all
+bytes_byte (o ∷ os) object p b small all = by_test (o.0 == object) (bytes_byte os object p b small (All-tail HasBytes o os all))
+  where
+    by_test : (t : Bool) → All HasBytes (with_byte os object p b) → All HasBytes (if t then (object, set o.1 p b) ∷ os else o ∷ with_byte os object p b)
+    by_test true rest = All-cons HasBytes (object, set o.1 p b) os (byte_set o.1 p b small (All-head HasBytes o os all)) (All-tail HasBytes o os all)
+    by_test false rest = All-cons HasBytes o (with_byte os object p b) (All-head HasBytes o os all) rest
+
+bytes_byte_at : (memory : List (ℕ × List ℕ)) (o : Option Mapping) (a b : ℕ) → b < 256 → All HasBytes memory → All HasBytes (with_byte_at memory o a b)
+bytes_byte_at memory None a b small all = all
+bytes_byte_at memory (Some m) a b small all = bytes_byte memory m.object (object_place m a) b small all
+
+bytes_stay : (memory : List (ℕ × List ℕ)) (maps : List Mapping) (a : ℕ) (bytes : List ℕ) → AreBytes bytes → All HasBytes memory → All HasBytes (with_stored memory maps a bytes)
+unfolding with_stored AreBytes
+bytes_stay memory maps a [] small all = all
+bytes_stay memory maps a (b ∷ bs) small all =
+    bytes_stay (with_byte_at memory (mapping_at maps (wrapped a)) (wrapped a) b) maps (a + 1) bs (All-tail (λ x. x < 256) b bs small) (bytes_byte_at memory (mapping_at maps (wrapped a)) (wrapped a) b (All-head (λ x. x < 256) b bs small) all)
+
+-- stores of bytes keep what fits
+pub fits_bytes : (memory : List (ℕ × List ℕ)) (maps : List Mapping) (a : ℕ) (bytes : List ℕ) → AreBytes bytes → TableFits memory maps → TableFits (with_stored memory maps a bytes) maps
+fits_bytes memory maps a bytes small fits = fits_shape memory (with_stored memory maps a bytes) maps (shape_bytes memory maps a bytes) (bytes_stay memory maps a bytes small fits.bytes) fits
+
+pub fits_writes : (memory : List (ℕ × List ℕ)) (maps : List Mapping) (writes : List Write) → All (λ w. AreBytes w.bytes) writes → TableFits memory maps → TableFits (with_writes memory maps writes) maps
+unfolding with_writes
+fits_writes memory maps [] small fits = fits
+fits_writes memory maps (w ∷ ws) small fits =
+    fits_writes (with_stored memory maps w.address w.bytes) maps ws (All-tail (λ (v : Write). AreBytes v.bytes) w ws small) (fits_bytes memory maps w.address w.bytes (All-head (λ (v : Write). AreBytes v.bytes) w ws small) fits)
+
+byte_small : (i v : ℕ) → byte_at i v < 256
+byte_small zero v = omega arith
+byte_small (suc i) v = omega arith
+
+low_first : (i n v : ℕ) → AreBytes (bytes_low_first i n v)
+unfolding AreBytes
+low_first i zero v = All-nil (λ x. x < 256)
+low_first i (suc n) v = All-cons (λ x. x < 256) (byte_at i v) (bytes_low_first (suc i) n v) (byte_small i v) (low_first (suc i) n v)
+
+-- a number's bytes are bytes
+pub value_bytes : (n v : ℕ) → AreBytes (bytes_of n v)
+value_bytes n v = low_first 0 n v
+
+-- ---- places
+
+-- each mapped address lies inside its object
+pub inside_of : (memory : List (ℕ × List ℕ)) (maps : List Mapping) → TableFits memory maps → AllInside memory maps
+inside_of memory maps fits a m found =
+    let here = found_has (λ n. 4096 * (n.first + n.pages) ≤ length (bytes_in memory n.object)) (has a) maps m fits.inside found in
+    let low : m.start ≤ a = grind (arith, here.1) in
+    let high : a < end_of m = grind (arith, here.1) in
+    omega (arith, here.0, low, high)
+
+-- ---- valid groups
+
+abbrev whole : ObjectRec → ℕ × ℕ
+whole o = (o.number, 4096 * o.pages)
+
+shape_is : (objects : List ObjectRec) (memory : List (ℕ × List ℕ)) → AllZip IsObject objects memory → shape memory ≡ map whole objects
+shape_is [] [] zip = refl
+shape_is [] (e ∷ es) zip = absurd zip
+shape_is (o ∷ os) [] zip = absurd zip
+shape_is (o ∷ os) (e ∷ es) zip =
+    ap (λ (n : ℕ). (n, length e.1) ∷ shape es) zip.0.0 ∙ ap (λ (n : ℕ). (o.number, n) ∷ shape es) zip.0.1 ∙ ap (λ (l : List (ℕ × ℕ)). whole o ∷ l) (shape_is os es zip.1)
+
+zip_bytes : (objects : List ObjectRec) (memory : List (ℕ × List ℕ)) → AllZip IsObject objects memory → All HasBytes memory
+zip_bytes [] [] zip = All-nil HasBytes
+zip_bytes [] (e ∷ es) zip = absurd zip
+zip_bytes (o ∷ os) [] zip = absurd zip
+zip_bytes (o ∷ os) (e ∷ es) zip = All-cons HasBytes e es zip.0.2 (zip_bytes os es zip.1)
+
+rise_whole : (objects : List ObjectRec) → Rise (λ o. o.number) objects → Rise (λ s. s.0) (map whole objects)
+unfolding Rise
+rise_whole objects rise i j d less end =
+    let o : ObjectRec = record { number = 0; pages = 0 } in
+    let lt : j < length objects = omega (arith, end, length-map objects whole) in
+    let low : (get_or (map whole objects) i d).0 ≡ (get_or objects i o).number = ap (λ (s : ℕ × ℕ). s.0) (get_or-map whole objects i o d (omega (arith, less, lt))) in
+    let high : (get_or (map whole objects) j d).0 ≡ (get_or objects j o).number = ap (λ (s : ℕ × ℕ). s.0) (get_or-map whole objects j o d lt) in
+    omega (arith, low, high, rise i j o less lt)
+
+sizes_whole : (objects : List ObjectRec) → All (λ o. o.pages ≤ 16384) objects → All IsSmall (map whole objects)
+sizes_whole objects small k d end =
+    let o : ObjectRec = record { number = 0; pages = 0 } in
+    let lt : k < length objects = omega (arith, end, length-map objects whole) in
+    let e : (get_or (map whole objects) k d).1 ≡ 4096 * (get_or objects k o).pages = ap (λ (s : ℕ × ℕ). s.1) (get_or-map whole objects k o d lt) in
+    omega (arith, e, small k o lt)
+
+inside_whole : (objects : List ObjectRec) (memory : List (ℕ × List ℕ)) (m : Mapping) → Rise (λ o. o.number) objects → AllZip IsObject objects memory → IsInside objects m → 4096 * (m.first + m.pages) ≤ length (bytes_in memory m.object)
+unfolding IsInside
+inside_whole objects memory m rise zip (k, o, lt, at, holds) =
+    let sizes = map whole objects in
+    let here : get_or sizes k (0, 0) ≡ whole (get_or objects k o) = get_or-map whole objects k o (0, 0) lt in
+    let mine : get_or sizes k (0, 0) ≡ whole o = here ∙ ap whole at in
+    let number : (get_or sizes k (0, 0)).0 ≡ m.object = ap (λ (s : ℕ × ℕ). s.0) mine ∙ holds.0 in
+    let found : find (λ s. s.0 == m.object) sizes ≡ Some (whole o) = entry_at sizes k m.object (0, 0) (rise_whole objects rise) (omega (arith, lt, length-map objects whole)) number ∙ ap (λ (s : ℕ × ℕ). Some s) mine in
+    let size : length (bytes_in memory m.object) ≡ 4096 * o.pages = size_is memory m.object ∙ ap (λ (l : List (ℕ × ℕ)). size_of (find (λ s. s.0 == m.object) l)) (shape_is objects memory zip) ∙ ap size_of found in
+    omega (arith, size, holds.1)
+
+fits_with : (g : Group) (p : Proc) → GroupIsValid g → MappingsValid g.frame.objects p → IsAlone p → TableFits g.memory p.maps
+unfolding MappingsValid FrameMemoryFits IsAlone
+fits_with g p valid maps alone = record {
+  placed = All-weaker (λ m. IsUserMapping m × IsInside g.frame.objects m) IsUserMapping (λ m h. h.0) p.maps maps.0;
+  apart = maps.1;
+  unshared = alone.1;
+  inside = All-weaker (λ m. IsUserMapping m × IsInside g.frame.objects m) (λ m. 4096 * (m.first + m.pages) ≤ length (bytes_in g.memory m.object)) (λ m h. inside_whole g.frame.objects g.memory m valid.frame.order.objects valid.memory h.1) p.maps maps.0;
+  rise = shape_rise g.memory (subst (λ (l : List (ℕ × ℕ)). Rise (λ s. s.0) l) (sym (shape_is g.frame.objects g.memory valid.memory)) (rise_whole g.frame.objects valid.frame.order.objects));
+  bytes = zip_bytes g.frame.objects g.memory valid.memory;
+  sizes = shape_sizes g.memory (subst (All IsSmall) (sym (shape_is g.frame.objects g.memory valid.memory)) (sizes_whole g.frame.objects valid.frame.limits.memory.2));
+}
+
+-- the memory of the one process of a valid group
+pub fits_of : (g : Group) (p : Proc) → GroupIsValid g → All IsAlone g.frame.procs → g.frame.procs ≡ p ∷ [] → TableFits g.memory p.maps
+fits_of g p valid alone one =
+    fits_with g p valid (All-head (MappingsValid g.frame.objects) p [] (subst (All (MappingsValid g.frame.objects)) one valid.frame.mappings)) (All-head IsAlone p [] (subst (All IsAlone) one alone))

@@ -1,0 +1,109 @@
+-- A step of the process that runs.
+use Rattle.std.proofs.Common.{◌≡◌, ℕ, ◌==◌, Bool, true, false, List, [], ◌∷◌, Option, Some, None, refl, ap, ◌∙◌, arith, rules}
+use Rattle.std.specs.Prelude.{if◌then◌else◌, All}
+use Rattle.std.specs.List.{cons_option, filter}
+use Rattle.std.proofs.Math.Path.{fun_ext}
+use Rattle.rv64_isa.specs.declared.regs.Regs.{Regs}
+use Rattle.rv64_isa.specs.Instruction.{instruction, is_step}
+use Rattle.rv64_isa.specs.Memory.{Cells, private_cells, private_of}
+use Rattle.group_defs.specs.declared.frame.ObjectRec.{ObjectRec}
+use Rattle.group_defs.specs.declared.frame.Out.{Out}
+use Rattle.group_defs.specs.declared.frame.Proc.{Proc}
+use Rattle.address_maps.specs.declared.maps.Mapping.{Mapping}
+use Rattle.descriptors.specs.declared.opens.Open.{Open}
+use Rattle.group_defs.specs.Built.{IsAlone}
+use Rattle.group_defs.specs.Cells.{cell_in, cells_of}
+use Rattle.address_maps.specs.Mappings.{has, mapping_at}
+use Rattle.group_defs.specs.Exit.{ended, with_left}
+use Rattle.group_defs.specs.Group.{Group, runner}
+use Rattle.tables.specs.Lists.{on_first}
+use Rattle.group_defs.specs.Objects.{is_of_file}
+use Rattle.group_defs.specs.Step.{after_effect, continued, do_step, effect_in, is_local, is_local_at}
+use Rattle.group_kernel.specs.Engine.{running_process, running_group, ended_group, frame_with, IsRunnable}
+use Rattle.group_kernel.specs.declared.engine_group.Fixed.{Fixed}
+use Rattle.group_kernel.proofs.MemoryReads.{found_has}
+
+-- ---- one process
+
+itself : (n : ℕ) → (n == n) ≡ true
+itself n = search rules
+
+some_by : {X : Type 0} (t : Bool) (x : X) → t ≡ true → (let o : Option X = if t then Some x else None in o) ≡ Some x
+some_by true x e = refl
+some_by false x e = absurd (cc)
+
+first_by : {X : Type 0} (t : Bool) (x y : X) → t ≡ true → (let l : List X = if t then y ∷ [] else x ∷ [] in l) ≡ y ∷ []
+first_by true x y e = refl
+first_by false x y e = absurd (cc)
+
+none_kept : {X : Type 0} (xs : List X) → filter (λ x. false) xs ≡ []
+none_kept [] = refl
+none_kept (x ∷ xs) = none_kept xs
+
+none_by : {X : Type 0} (t : Bool) (o : Option X) → t ≡ true → cons_option (if t then None else o) [] ≡ []
+none_by true o e = refl
+none_by false o e = absurd (cc)
+
+module _ (fixed : Fixed) (maps : List Mapping) (r : Regs) (memory : List (ℕ × List ℕ)) (out : Out) where
+  -- it is found by its pid
+  pub runner_is : runner (running_group fixed maps r memory out) fixed.pid ≡ Some (running_process fixed maps r)
+  unfolding runner
+  runner_is = some_by (fixed.pid == fixed.pid) (running_process fixed maps r) (itself fixed.pid)
+
+  -- it goes on with other registers
+  pub goes_on : (r' : Regs) → continued (running_group fixed maps r memory out) (running_process fixed maps r) r' ≡ running_group fixed maps r' memory out
+  unfolding on_first
+  goes_on r' =
+      ap (λ (l : List Proc). let g : Group = record { frame = frame_with l fixed.objects fixed.opens fixed.next out; memory = memory } in g)
+      (first_by (fixed.pid == fixed.pid) (running_process fixed maps r) (running_process fixed maps r') (itself fixed.pid))
+
+  -- nothing is left but the next numbers and the output
+  pub ends_all : (status : ℕ) → ended (running_group fixed maps r memory out) (running_process fixed maps r) status ≡ ended_group fixed.next out
+  unfolding ended is_of_file
+  ends_all status =
+      ap (with_left (running_group fixed maps r memory out)) (none_by (fixed.pid == fixed.pid) _ (itself fixed.pid))
+      ∙ ap (λ (l : List ObjectRec). left l (filter (λ o. false) fixed.opens) (filter (λ o. false) memory)) (none_kept fixed.objects)
+      ∙ ap (λ (l : List Open). left [] l (filter (λ o. false) memory)) (none_kept fixed.opens)
+      ∙ ap (λ (l : List (ℕ × List ℕ)). left [] [] l) (none_kept memory)
+    where
+      left : List ObjectRec → List Open → List (ℕ × List ℕ) → Group
+      left objects opens bytes = record { frame = frame_with [] objects opens fixed.next out; memory = bytes }
+
+  -- the next step
+  pub step_is : do_step (running_group fixed maps r memory out) fixed.pid ≡ after_effect (running_group fixed maps r memory out) (running_process fixed maps r) (instruction (cells_of memory maps) r)
+  unfolding do_step
+  step_is = ap stepped runner_is
+    where
+      stepped : Option Proc → Group
+      stepped o = elim o [ None ↦ running_group fixed maps r memory out | Some p ↦ after_effect (running_group fixed maps r memory out) p (effect_in (running_group fixed maps r memory out) p) ]
+
+-- the same for a group that is that of these parts
+pub continues : (h : Group) (fixed : Fixed) (maps : List Mapping) (r : Regs) (memory : List (ℕ × List ℕ)) (out : Out) → h ≡ running_group fixed maps r memory out → (r' : Regs)
+    → continued h (running_process fixed maps r) r' ≡ running_group fixed maps r' memory out
+continues h fixed maps r memory out is r' = ap (λ (x : Group). continued x (running_process fixed maps r) r') is ∙ goes_on fixed maps r memory out r'
+
+-- ---- all of its memory is private
+
+private_by : (memory : List (ℕ × List ℕ)) (a : ℕ) (o : Option Mapping) → ((m : Mapping) → o ≡ Some m → m.shared ≡ false)
+    → private_of (elim o [ None ↦ None | Some m ↦ Some (cell_in memory a m) ]) ≡ (elim o [ None ↦ None | Some m ↦ Some (cell_in memory a m) ])
+private_by memory a None all = refl
+private_by memory a (Some m) all = rw (all m refl) refl
+
+pub all_private : (memory : List (ℕ × List ℕ)) (maps : List Mapping) → All (λ m. m.shared ≡ false) maps → private_cells (cells_of memory maps) ≡ cells_of memory maps
+unfolding cells_of
+all_private memory maps all = fun_ext (λ a. private_by memory a (mapping_at maps a) (λ m is. (found_has (λ (n : Mapping). n.shared ≡ false) (has a) maps m all is).0))
+
+module _ (fixed : Fixed) (maps : List Mapping) (r : Regs) (memory : List (ℕ × List ℕ)) (out : Out) (runs : IsRunnable (running_group fixed maps r memory out)) where
+  mappings_private : All (λ m. m.shared ≡ false) maps
+  unfolding IsAlone
+  mappings_private = (runs.built.alone 0 (running_process fixed maps r) (omega arith)).1
+
+  -- whether the next step is local
+  pub local_is : is_local (running_group fixed maps r memory out) fixed.pid ≡ is_step (instruction (cells_of memory maps) r)
+  unfolding is_local
+  local_is =
+      ap local (runner_is fixed maps r memory out)
+      ∙ ap (λ (cells : Cells). is_step (instruction cells r)) (all_private memory maps mappings_private)
+    where
+      local : Option Proc → Bool
+      local o = elim o [ None ↦ false | Some p ↦ is_local_at (running_group fixed maps r memory out) p ]

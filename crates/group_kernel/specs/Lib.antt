@@ -1,0 +1,7 @@
+-- What the public clauses say.
+pub mod Engine
+pub mod Memory
+-- What only private functions say.
+pub mod Descriptors
+pub mod Registers
+pub mod Placing

@@ -1,0 +1,23 @@
+//! A group while it runs: at most one process so far, over memory of its own.
+//!
+//! It takes turns, makes the barrier, and gives the group's frame and pages as they stand at a barrier; each call is the
+//! definition's own step, turn or barrier. It knows no disk. Below stand the local step, the definitions of groups and runs,
+//! and the records' types; above, the engines.
+#![tactic(auto)]
+
+mod calls;
+mod engine_group;
+mod freezing;
+pub mod laws;
+mod mapped_byte;
+mod parts;
+mod process_memory;
+#[cfg(test)]
+mod tests;
+mod turns;
+
+pub use engine_group::{EngineGroup, Fixed};
+pub use freezing::{frame_of, mark_output, pages_of};
+pub use parts::engine_group as group_from;
+pub use process_memory::ProcessMemory;
+pub use turns::{is_ready, turn};

@@ -1,0 +1,107 @@
+//! Turns of the process.
+ghost use Rattle.std.specs.Prelude.{All, ◌≡◌, ◌≤◌, ◌<◌, ◌+◌, ◌^◌, length, false, if◌then◌else◌, [], ◌∷◌, IfOk, OnOk, IsTrue};
+ghost use Rattle.run_defs.specs.Legal.{ready};
+ghost use Rattle.group_defs.specs.Output.{last_position};
+ghost use Rattle.group_defs.specs.Step.{do_step, is_local, is_waiting as waits};
+ghost use Rattle.run_defs.specs.Turns.{steps_of, AllLocal, IsTurn, turned};
+ghost use Rattle.group_kernel.specs.Engine.{group_in, IsRunnable};
+ghost use Rattle.group_kernel.specs.Registers.{AreRegisters};
+
+use crate::calls::{is_waiting, other_step};
+use crate::engine_group::EngineGroup;
+use lists::NoMemory;
+use rv64_core::{Local, Regs, local_step};
+
+// What their types say of registers, for contracts alone.
+fn numbers_fit(_numbers: &[u64])
+    ensures { All (λ n. n < 2 ^ 64) _numbers.now }
+{}
+
+fn array_fits(x: &[u64; 31])
+    ensures count { length x.now ≡ 31 }
+    ensures numbers { All (λ n. n < 2 ^ 64) x.now }
+{
+    numbers_fit(x);
+}
+
+fn number_fits(_number: u64)
+    ensures { _number < 2 ^ 64 }
+{}
+
+fn registers_fit(regs: &Regs)
+    ensures { AreRegisters regs.now }
+{
+    number_fits(regs.pc);
+    array_fits(&regs.x);
+}
+
+/// One step of the process where that is local: whether it was made.
+fn step_if_local(g: &mut EngineGroup) -> Result<bool, NoMemory>
+    requires running { IsTrue g.old.running }
+    requires runnable { IsRunnable (group_in g.old) }
+    ensures local { IfOk result (λ stepped. is_local (group_in g.old) g.old.fixed.pid ≡ stepped) }
+    ensures group { IfOk result (λ stepped. group_in g.new ≡ (if stepped then do_step (group_in g.old) g.old.fixed.pid else group_in g.old)) }
+    ensures running { OnOk result (IsTrue g.new.running) }
+    ensures runnable { OnOk result (IsRunnable (group_in g.new)) }
+    ensures out { OnOk result (g.new.out ≡ g.old.out) }
+    ensures fixed { OnOk result (g.new.fixed ≡ g.old.fixed) }
+{
+    match local_step(&mut g.regs, &mut g.memory) {
+        Local::Stepped => {
+            registers_fit(&g.regs);
+            Ok(true)
+        }
+        Local::Shared => Ok(false),
+        Local::NoMemory => Err(NoMemory),
+    }
+}
+
+/// Up to `quantum` local steps: how many were made.
+fn local_steps(g: &mut EngineGroup, quantum: u32) -> Result<u32, NoMemory>
+    requires running { IsTrue g.old.running }
+    requires runnable { IsRunnable (group_in g.old) }
+    ensures within { IfOk result (λ n. n ≤ quantum) }
+    ensures group { IfOk result (λ n. group_in g.new ≡ steps_of (group_in g.old) g.old.fixed.pid n) }
+    ensures all_local { IfOk result (λ n. AllLocal (group_in g.old) g.old.fixed.pid n) }
+    ensures stops { IfOk result (λ n. n < quantum → is_local (group_in g.new) g.old.fixed.pid ≡ false) }
+    ensures running { OnOk result (IsTrue g.new.running) }
+    ensures runnable { OnOk result (IsRunnable (group_in g.new)) }
+    ensures out { OnOk result (g.new.out ≡ g.old.out) }
+    ensures fixed { OnOk result (g.new.fixed ≡ g.old.fixed) }
+{
+    for n in 0..quantum {
+        if !step_if_local(g)? {
+            return Ok(n);
+        }
+    }
+    Ok(quantum)
+}
+
+/// A turn of the process: up to `quantum` local steps, and one more step where there were fewer.
+pub fn turn(g: &mut EngineGroup, quantum: u32) -> Result<u32, NoMemory>
+    requires running { IsTrue g.old.running }
+    requires runnable { IsRunnable (group_in g.old) }
+    requires room { last_position g.old.out + 1048576 < 2 ^ 63 }
+    ensures turn { IfOk result (λ n. IsTurn quantum (group_in g.old) g.old.fixed.pid n) }
+    ensures group { IfOk result (λ n. group_in g.new ≡ turned quantum (group_in g.old) g.old.fixed.pid n) }
+    ensures runnable { OnOk result (IsRunnable (group_in g.new)) }
+    ensures grown { OnOk result (last_position g.new.out ≤ last_position g.old.out + 1048576) }
+    ensures same_marks { OnOk result ((g.new.out.from ≡ g.old.out.from) × (g.new.out.mark ≡ g.old.out.mark)) }
+    ensures fixed { OnOk result (g.new.fixed ≡ g.old.fixed) }
+{
+    let n = local_steps(g, quantum)?;
+    if n < quantum {
+        other_step(g)?;
+    }
+    Ok(n)
+}
+
+/// Whether the process runs and doesn't wait.
+pub fn is_ready(g: &EngineGroup) -> bool
+    requires { IsRunnable (group_in g.now) }
+    ensures ready { ready (group_in g.now) ≡ (if result then g.now.fixed.pid ∷ [] else []) }
+    ensures running { IsTrue result → IsTrue g.now.running }
+    ensures acts { IsTrue result → waits (group_in g.now) g.now.fixed.pid ≡ false }
+{
+    g.running && !is_waiting(g)
+}

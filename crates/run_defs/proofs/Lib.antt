@@ -1,0 +1,10 @@
+pub mod AtRest
+pub mod Epochs
+pub mod MovedLaws
+pub mod OutputLaws
+pub mod OutputParts
+pub mod PageLaws
+pub mod Runs
+pub mod SoloLaws
+pub mod TraceLaws
+pub mod WholeTraces

@@ -1,8 +1,0 @@
-use Rattle.solo_engine.proofs.Keeps.{keeps_unfinished, keeps_or_holds}
-use Rattle.solo_engine.proofs.laws.commits_keep_or_replace.Goals as goal
-
-pub returns-clause-unfinished : goal.returns-clause-unfinished
-returns-clause-unfinished c = keeps_unfinished
-
-pub returns-clause-during : goal.returns-clause-during
-returns-clause-during c = keeps_or_holds

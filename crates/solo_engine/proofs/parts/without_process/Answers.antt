@@ -1,7 +1,0 @@
-use Rattle.std.proofs.Common.{ap}
-use Rattle.solo_engine.specs.Memory.{memory_in}
-use Rattle.solo_engine.proofs.PartsLaws.{nothing_fits}
-use Rattle.solo_engine.proofs.parts.without_process.Goals as goal
-
-pub of-requires : goal.of-requires
-of-requires c = nothing_fits (memory_in c.new-2.result.items) c.new.result (ap memory_in c.new-2.ensures.items) c.new.ensures
