@@ -1,28 +1,32 @@
 //! The files of a directory.
 ghost use Rattle.std.specs.Prelude.{◌≡◌, None};
 
-use crate::count::raised;
+use crate::again::read_some;
+use crate::faults::Faults;
 use dev_traits::{Files, FilesFailed};
 use std::alloc::Global;
 use std::fs::File;
 use std::io;
-use std::io::{ErrorKind, Read};
+use std::io::ErrorKind;
 
 /// The most bytes of a file that are read.
 const MOST_BYTES: u64 = 1 << 32;
 
 /// Files by name, taken relative to the working directory. A file that is longer than 2^32 bytes is a fault.
 ///
-/// They tell no content.
+/// They tell no content. The first file that isn't there or can't be read is told on standard error.
 #[derive(Drop)]
 pub struct DirFiles<'a> {
     rt: &'a HostRuntime,
-    faults: u64,
+    faults: Faults<'a>,
 }
 
 impl<'a> DirFiles<'a> {
     pub fn new(rt: &'a HostRuntime) -> DirFiles<'a> {
-        DirFiles { rt, faults: 0 }
+        DirFiles {
+            rt,
+            faults: Faults::new(rt),
+        }
     }
 }
 
@@ -31,7 +35,7 @@ fn read_all(rt: &HostRuntime, alloc: Global, name: &str) -> io::Result<Vec<u8>> 
     let mut bytes = Vec::new(alloc);
     let mut piece = [0u8; 4096];
     for _ in 0..=MOST_BYTES {
-        let n = file.read(&mut piece)?;
+        let n = read_some(&mut file, &mut piece)?;
         if n == 0 {
             return Ok(bytes);
         }
@@ -45,7 +49,7 @@ fn read_all(rt: &HostRuntime, alloc: Global, name: &str) -> io::Result<Vec<u8>> 
 
 impl Files for DirFiles<'_> {
     ghost view = { λ f. record {
-      faults = f.faults;
+      faults = f.faults.count;
       contents = None;
     } };
 
@@ -53,10 +57,13 @@ impl Files for DirFiles<'_> {
         match read_all(self.rt, alloc, name) {
             Ok(bytes) => Ok(Some(bytes)),
             Err(error) => match error.kind() {
-                ErrorKind::NotFound | ErrorKind::NotADirectory => Ok(None),
+                ErrorKind::NotFound | ErrorKind::NotADirectory => {
+                    self.faults.tell(name, error);
+                    Ok(None)
+                }
                 ErrorKind::OutOfMemory => Err(FilesFailed::NoMemory),
                 _ => {
-                    self.faults = raised(self.faults);
+                    self.faults.add(name, error);
                     Err(FilesFailed::Failed)
                 }
             },

@@ -1,33 +1,38 @@
 //! A sink that writes to standard output.
 ghost use Rattle.std.specs.Prelude.{◌≡◌, None};
 
-use crate::count::raised;
+use crate::again::write_some;
+use crate::faults::Faults;
 use dev_traits::{Failed, Sink};
-use std::io::{Print, Stdout};
+use std::io;
+use std::io::{ErrorKind, Stdout};
+
+/// What standard output is called where its failure is told.
+const NAME: &str = "standard output";
 
 /// Standard output, which is written to at once. The count begins at 0.
 ///
-/// It tells no content.
+/// It tells no content. The first failure is told on standard error.
 #[derive(Drop)]
-pub struct LineSink {
+pub struct LineSink<'a> {
     out: Stdout,
     count: u64,
-    faults: u64,
+    faults: Faults<'a>,
 }
 
-impl LineSink {
-    pub fn new(rt: &HostRuntime) -> LineSink {
+impl<'a> LineSink<'a> {
+    pub fn new(rt: &'a HostRuntime) -> LineSink<'a> {
         LineSink {
             out: rt.stdout(),
             count: 0,
-            faults: 0,
+            faults: Faults::new(rt),
         }
     }
 }
 
-impl Sink for LineSink {
+impl Sink for LineSink<'_> {
     ghost view = { λ s. record {
-      faults = s.faults;
+      faults = s.faults.count;
       count = s.count;
       bytes = None;
     } };
@@ -45,13 +50,17 @@ impl Sink for LineSink {
         } else {
             &bytes[..room as usize]
         };
-        match self.out.write_some(piece) {
+        match write_some(&mut self.out, piece) {
             Ok(n) if n > 0 => {
                 self.count += n as u64;
                 Ok(n)
             }
-            Ok(_) | Err(_) => {
-                self.faults = raised(self.faults);
+            Ok(_) => {
+                self.faults.add(NAME, io::Error::from(ErrorKind::WriteZero));
+                Err(Failed)
+            }
+            Err(error) => {
+                self.faults.add(NAME, error);
                 Err(Failed)
             }
         }

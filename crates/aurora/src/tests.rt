@@ -1,3 +1,5 @@
+mod odd_files;
+
 use crate::run_on_files;
 use dev_traits::Word;
 use std::alloc::Global;
@@ -75,7 +77,7 @@ fn run(rt: &HostRuntime, names: &Names) -> Result<u8, Fail> {
     for text in ["run", disk, out, names.manifest.as_str()] {
         words.push(Word::new(alloc, text)?)?;
     }
-    Ok(run_on_files(rt, &words, disk, out))
+    Ok(run_on_files(rt, &words, disk, out)?)
 }
 
 fn remove_files(rt: &HostRuntime, names: &Names) -> Result<(), Fail> {
@@ -148,7 +150,7 @@ fn call(rt: &HostRuntime, names: &Names, texts: &[&str], limits: [&str; 2]) -> R
     for text in ["--turns", turns, "--quantum", quantum] {
         words.push(Word::new(alloc, text)?)?;
     }
-    Ok(run_on_files(rt, &words, names.disk.as_str(), names.out.as_str()))
+    Ok(run_on_files(rt, &words, names.disk.as_str(), names.out.as_str())?)
 }
 
 /// How a run in parts ended: its last status, and how many commands went on from a checkpoint.
