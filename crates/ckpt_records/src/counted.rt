@@ -1,7 +1,7 @@
 ghost use Rattle.std.specs.Prelude.{◌≡◌, ◌++◌, OnOk};
 ghost use Rattle.ckpt_records.specs.Gives.{Gives};
 ghost use Rattle.ckpt_records.specs.Fits.{ListFits};
-ghost use Rattle.ckpt_records.specs.Codec.{list_at, times_at, counted};
+ghost use Rattle.ckpt_records.specs.Codec.{list_at, times_at, with_count};
 
 use crate::error::ReadError;
 use crate::field::Field;
@@ -38,7 +38,7 @@ pub fn list_of<T: Field + Drop>(alloc: Global, bytes: &[u8]) -> Result<(Seq<T>, 
 
 /// Writes a count and the entries.
 pub fn put_list<T: Field>(out: &mut Vec<u8>, items: &Seq<T>) -> Result<(), AllocError>
-    ensures bytes { OnOk result (out.new.items ≡ out.old.items ++ counted T.spells items.now) }
+    ensures bytes { OnOk result (out.new.items ≡ out.old.items ++ with_count T.spells items.now) }
     ensures fits { OnOk result (ListFits T.Fits items.now) }
 {
     put_items(out, items.as_slice())
@@ -46,7 +46,7 @@ pub fn put_list<T: Field>(out: &mut Vec<u8>, items: &Seq<T>) -> Result<(), Alloc
 
 /// Writes a count and the entries.
 pub fn put_items<T: Field>(out: &mut Vec<u8>, items: &[T]) -> Result<(), AllocError>
-    ensures bytes { OnOk result (out.new.items ≡ out.old.items ++ counted T.spells items.now) }
+    ensures bytes { OnOk result (out.new.items ≡ out.old.items ++ with_count T.spells items.now) }
     ensures fits { OnOk result (ListFits T.Fits items.now) }
 {
     put_u64(out, items.len() as u64)?;

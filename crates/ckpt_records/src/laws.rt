@@ -6,24 +6,39 @@ ghost use Rattle.ckpt_records.specs.declared.meta.PagePlace.{PagePlace};
 ghost use Rattle.ckpt_chain.specs.Chain.{SameBlocks};
 ghost use Rattle.ckpt_chain.specs.Slot.{newest};
 ghost use Rattle.ckpt_records.specs.Holds.{HoldsAt, IsWritten, block_numbers};
+ghost use Rattle.ckpt_records.specs.Spells.{Spells};
+ghost use Rattle.group_defs.specs.declared.frame.Frame.{Frame};
+
+use ckpt_chain::{kept_is_read, laid_is_read};
+
+/// Bytes spell at most one frame with the places of its pages.
+pub fn one_spelled()
+    ensures { (bytes : List ℕ) (blocks : ℕ) (f g : Frame) (pages others : List PagePlace)
+        → Spells bytes blocks f pages → Spells bytes blocks g others → (f ≡ g) × (pages ≡ others) }
+{}
 
 /// An image holds at most one epoch and one group, in one place.
 pub fn one_held()
-    ensures { (image : List ℕ) (e f : ℕ) (g h : Group) (ps qs : List PagePlace) (ms ns : List ℕ) (s t : Slot)
-        → HoldsAt image e g ps ms s → HoldsAt image f h qs ns t
-        → (e ≡ f) × (g ≡ h) × (ps ≡ qs) × (ms ≡ ns) × (s ≡ t) }
+    ensures { (image : List ℕ) (e f : ℕ) (g h : Group) (ps qs : List PagePlace) (ms ns : List ℕ)
+        (s t : Slot) → HoldsAt image e g ps ms s → HoldsAt image f h qs ns t → (e ≡ f) × (g ≡ h)
+        × (ps ≡ qs) × (ms ≡ ns) × (s ≡ t) }
 {}
 
 /// A whole checkpoint that was written is held.
 pub fn written_is_held()
-    ensures { (image bytes : List ℕ) (epoch : ℕ) (g : Group) (pages : List PagePlace) (metas : List ℕ) (slot : Slot)
-        → IsWritten image bytes epoch g pages metas slot → HoldsAt image epoch g pages metas slot }
-{}
+    ensures { (image bytes : List ℕ) (epoch : ℕ) (g : Group) (pages : List PagePlace)
+        (metas : List ℕ) (slot : Slot) → IsWritten image bytes epoch g pages metas slot
+        → HoldsAt image epoch g pages metas slot }
+{
+    laid_is_read()
+}
 
 /// What is held stays held where the blocks of its checkpoint and the open slots are as before.
 pub fn kept_is_held()
-    ensures { (old new : List ℕ) (epoch : ℕ) (g : Group) (pages : List PagePlace) (metas : List ℕ) (slot : Slot)
-        → HoldsAt old epoch g pages metas slot → length new ≡ length old → newest new ≡ newest old
-        → SameBlocks old new metas → SameBlocks old new (block_numbers pages)
-        → HoldsAt new epoch g pages metas slot }
-{}
+    ensures { (old new : List ℕ) (epoch : ℕ) (g : Group) (pages : List PagePlace) (metas : List ℕ)
+        (slot : Slot) → HoldsAt old epoch g pages metas slot → length new ≡ length old
+        → newest new ≡ newest old → SameBlocks old new metas
+        → SameBlocks old new (block_numbers pages) → HoldsAt new epoch g pages metas slot }
+{
+    kept_is_read()
+}

@@ -5,24 +5,18 @@
 //! types of groups, the chain of meta blocks and the layers of pages; above, whatever restores or commits a group.
 #![tactic(auto)]
 
-#[cfg(test)]
-mod bounds_tests;
 mod counted;
 mod error;
 mod field;
+mod fields;
 mod laws;
 mod meta;
 mod numbers;
 mod origin;
-mod parts;
-#[cfg(test)]
-mod random_tests;
 mod record;
-#[cfg(test)]
-mod tests;
 
 pub use error::ReadError;
-pub use laws::{kept_is_held, one_held, written_is_held};
+pub use laws::{kept_is_held, one_held, one_spelled, written_is_held};
 pub use meta::{Meta, Page, PagePlace};
 pub use numbers::num_at;
 pub use origin::{Ckpt, Frozen, Origin, Parts, Placement, has_size, is_unworn, is_within};

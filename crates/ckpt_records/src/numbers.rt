@@ -13,7 +13,8 @@ use std::alloc::{AllocError, Global};
 
 /// The number in the eight bytes from a place on, the low byte first; none where fewer than eight follow.
 pub fn num_at(bytes: &[u8], at: usize) -> Option<u64>
-    ensures { result ≡ (if nat_le (at + 8) (length bytes.now) then Some (from_le_bytes w64 (take 8 (drop at bytes.now))) else None) }
+    ensures { result ≡ (if nat_le (at + 8) (length bytes.now) then Some
+        (from_le_bytes w64 (take 8 (drop at bytes.now))) else None) }
 {
     if bytes.len() < 8 || at > bytes.len() - 8 {
         return None;

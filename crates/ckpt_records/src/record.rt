@@ -5,7 +5,7 @@ ghost use Rattle.group_defs.specs.declared.frame.Frame.{Frame};
 ghost use Rattle.ckpt_records.specs.declared.meta.PagePlace.{PagePlace};
 ghost use Rattle.ckpt_records.specs.Gives.{Gives};
 ghost use Rattle.ckpt_records.specs.Reading.{record_at, parts_at, head_at, parts_of as frame_parts};
-ghost use Rattle.ckpt_records.specs.Spelling.{record_bytes, magic, front, middle};
+ghost use Rattle.ckpt_records.specs.Spelling.{record_bytes, magic, first_fields, middle};
 ghost use Rattle.ckpt_records.specs.Fits.{RecordRange, FrontRange, MiddleRange, HasEnd, IsInForm};
 ghost use Rattle.ckpt_records.specs.Spells.{Spells, IsOrderly, IsPagePlace, IsPageOf, PagesRise};
 
@@ -108,7 +108,8 @@ pub fn read_meta(alloc: Global, bytes: &[u8], blocks: u64) -> Result<Option<Meta
     // What is read is spelled so.
     ensures found { IfOk result (λ r. IfSome r (λ m. Spells bytes.now blocks m.frame m.pages)) }
     // What is spelled so is read, and nothing else.
-    ensures only { (f : Frame) (pages : List PagePlace) → Spells bytes.now blocks f pages → IfOk result (λ r. MatchOption r ⊥ (λ m. (m.frame ≡ f) × (m.pages ≡ pages))) }
+    ensures only { (f : Frame) (pages : List PagePlace) → Spells bytes.now blocks f pages
+        → IfOk result (λ r. MatchOption r ⊥ (λ m. (m.frame ≡ f) × (m.pages ≡ pages))) }
 {
     match record_of(alloc, bytes) {
         Err(ReadError::NoMemory) => Err(NoMemory),
@@ -161,7 +162,8 @@ fn have_ends(opens: &[Open]) -> bool
 pub fn write_meta(alloc: Global, frame: &Frame, pages: &[PagePlace]) -> Result<Vec<u8>, NoMemory>
     requires { IsInForm frame.now }
     ensures bytes { IfOk result (λ v. v.items ≡ record_bytes frame.now pages.now) }
-    ensures spelled { IfOk result (λ v. (blocks : ℕ) → IsOrderly blocks frame.now pages.now → Spells v.items blocks frame.now pages.now) }
+    ensures spelled { IfOk result (λ v. (blocks : ℕ) → IsOrderly blocks frame.now pages.now
+        → Spells v.items blocks frame.now pages.now) }
 {
     match put_record(alloc, frame, pages) {
         Ok(out) => Ok(out),
@@ -189,9 +191,9 @@ fn put_magic(out: &mut Vec<u8>) -> Result<(), AllocError>
     out.extend_from_slice(b"AURMETA1")
 }
 
-#[tactic(auto, unfolding(crate::specs::Spelling::front))]
+#[tactic(auto, unfolding(crate::specs::Spelling::first_fields))]
 fn put_front(out: &mut Vec<u8>, frame: &Frame) -> Result<(), AllocError>
-    ensures bytes { OnOk result (out.new.items ≡ out.old.items ++ front frame.now) }
+    ensures bytes { OnOk result (out.new.items ≡ out.old.items ++ first_fields frame.now) }
     ensures range { OnOk result (FrontRange frame.now) }
 {
     put_magic(out)?;

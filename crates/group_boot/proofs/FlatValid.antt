@@ -1,5 +1,5 @@
 -- The first group of an image is valid.
-use Rattle.std.proofs.Common.{◌≡◌, ◌⊎◌, inl, inr, ℕ, ◌+◌, ◌-◌, ◌*◌, ◌<◌, ◌≤◌, ◌^◌, true, false, List, [], ◌∷◌, ◌++◌, length, replicate, refl, All, AllPairs, Any, arith, length-append}
+use Rattle.std.proofs.Common.{◌≡◌, ◌⊎◌, inl, inr, ℕ, ◌+◌, ◌-◌, ◌*◌, ◌<◌, ◌≤◌, ◌^◌, true, false, List, [], ◌∷◌, ◌++◌, length, replicate, refl, All, AllPairs, IsTrue, arith, length-append}
 use Rattle.std.proofs.lemmas.List.{length-replicate}
 use Rattle.std.proofs.lemmas.List.Elements.{All-append, All-cons, All-nil, All-replicate}
 use Rattle.std.proofs.lemmas.List.Kept.{AllPairs-cons}
@@ -14,20 +14,20 @@ use Rattle.descriptors.specs.declared.opens.OpenKind.TheVariants.{Nothing, Outsi
 use Rattle.pipes_socks.specs.declared.streams.Pair.{Pair}
 use Rattle.pipes_socks.specs.declared.streams.Pipe.{Pipe}
 use Rattle.group_defs.specs.Built.{IsAlone, IsPlain, OnlyBuilt}
-use Rattle.group_defs.specs.Descriptions.{Owns, IsOwned, IsOpen, DescriptorsValid, OpenValid, DescriptionsValid}
+use Rattle.group_defs.specs.Descriptions.{IsOpen, DescriptorsValid, PositionValid}
 use Rattle.address_maps.specs.Mappings.{end_of, AreApart}
-use Rattle.group_defs.specs.Mappings.{IsUserMapping, IsInside, MappingsValid}
-use Rattle.group_defs.specs.Numbers.{RegsFit, NextFits, NumbersFit, NextIsAbove, NextValid}
+use Rattle.group_defs.specs.Mappings.{IsUserMapping, IsInside}
+use Rattle.group_defs.specs.Numbers.{RegsFit, NextFits}
 use Rattle.lists.specs.Bytes.{AreBytes}
-use Rattle.group_defs.specs.Objects.{is_of_file, maps_object, mappers, memory_objects, IsMappedAs, IsPrivateObject, IsMemoryObject, ObjectsValid}
+use Rattle.group_defs.specs.Objects.{is_of_file, maps_object, mappers, IsMappedAs, IsPrivateObject, IsMemoryObject}
 use Rattle.tables.specs.Rising.{Rise}
 use Rattle.group_files.specs.Names.{IsBefore}
 use Rattle.group_files.specs.Files.{NamesRise}
-use Rattle.group_defs.specs.Order.{OwnListsRise, ListsRise}
+use Rattle.group_defs.specs.Order.{OwnListsRise}
 use Rattle.group_defs.specs.Processes.{BreakValid, RunningValid, ProcValid}
-use Rattle.group_defs.specs.Sizes.{ProcFits, MemoryWithinLimits, WithinLimits}
-use Rattle.group_defs.specs.Streams.{StreamsValid}
-use Rattle.group_defs.specs.Valid.{OutValid, FrameValid}
+use Rattle.group_defs.specs.Sizes.{ProcFits}
+use Rattle.group_defs.specs.Held.{is_held, is_kept}
+use Rattle.group_defs.specs.Valid.{AllHeld, FrameIsSound, FrameValid, MapsSound, NamesSound, ObjectsSound, OpensSound, OutValid, ProcsSound, TargetIsThere, group_of_parts}
 use Rattle.ckpt_records.specs.Holds.{IsCheckpointed}
 use Rattle.group_boot.specs.Flat.{flat_group, pages_for}
 use Rattle.group_boot.proofs.ImagePages.{within_pages}
@@ -121,83 +121,40 @@ first_frame pages = record {
 }
 
 module _ (pages : ℕ) (some : 1 ≤ pages) (few : pages ≤ 4096) where
-  limits_hold : WithinLimits (first_frame pages)
-  unfolding ProcFits MemoryWithinLimits memory_objects is_of_file
-  limits_hold = record {
-    proc_count = omega arith;
-    procs = all_one ProcFits (first_process pages) (omega arith, omega arith, all_three (λ (d : ℕ × ℕ). d.0 < 64) _ _ _ (omega arith) (omega arith) (omega arith));
-    memory = (omega arith, omega (arith, few), all_two (λ (o : ObjectRec). o.pages ≤ 16384) _ _ (omega (arith, few)) (omega arith));
-    open_count = omega arith;
-    pipe_count = omega arith;
-    pipes = λ _ _ lt. absurd (omega arith);
-    pair_count = omega arith;
-    pairs = λ _ _ lt. absurd (omega arith);
-    file_count = omega arith;
-    files = λ _ _ lt. absurd (omega arith);
-  }
+  abbrev procs : List Proc
+  procs = first_process pages ∷ []
 
-  own_lists_rise : OwnListsRise (first_process pages)
-  unfolding OwnListsRise
-  own_lists_rise = (rise_two (λ (m : Mapping). m.start) _ _ (omega arith), rise_three (λ (d : ℕ × ℕ). d.0) _ _ _ (omega arith) (omega arith))
-
-  lists_rise : ListsRise (first_frame pages)
-  lists_rise = record {
-    procs = rise_one (λ (q : Proc). q.pid) (first_process pages);
-    own = all_one OwnListsRise (first_process pages) own_lists_rise;
-    objects = rise_two (λ (o : ObjectRec). o.number) _ _ (omega arith);
-    opens = rise_two (λ (o : Open). o.number) _ _ (omega arith);
-    pipes = rise_none (λ (q : Pipe). q.number);
-    pairs = rise_none (λ (q : Pair). q.number);
-    files = names_rise;
-  }
+  both_maps : (P : Mapping → Type 0) → P (image_map pages) → P stack_map → All (λ (q : Proc). All P q.maps) procs
+  both_maps P p q = all_one (λ (r : Proc). All P r.maps) (first_process pages) (all_two P _ _ p q)
 
   registers_fit : All (λ x. x < 2 ^ 64) (0 ∷ 0x3ffffff000 ∷ replicate 29 0)
   registers_fit = All-cons (λ x. x < 2 ^ 64) 0 (0x3ffffff000 ∷ replicate 29 0) (omega arith) (All-cons (λ x. x < 2 ^ 64) 0x3ffffff000 (replicate 29 0) (omega arith) (All-replicate (λ x. x < 2 ^ 64) 29 0 (omega arith)))
 
-  numbers_fit : NumbersFit (first_frame pages)
-  unfolding RegsFit NextFits AreBytes
-  numbers_fit = record {
-    next = (omega arith, omega arith, omega arith, omega arith);
-    procs = all_one RegsFit (first_process pages) (omega arith, refl, registers_fit);
-    pipes = λ _ _ lt. absurd (omega arith);
-    pairs = λ _ _ lt. absurd (omega arith);
-    out = All-nil (λ b. b < 256);
+  procs_hold : ProcsSound 2 procs
+  unfolding ProcFits OwnListsRise RegsFit IsUserMapping AreApart ProcValid RunningValid BreakValid
+  procs_hold = record {
+    count = omega arith;
+    rise = rise_one (λ (q : Proc). q.pid) (first_process pages);
+    below = all_one (λ (q : Proc). q.pid < 2) _ (omega arith);
+    fits = all_one ProcFits _ (omega arith, omega arith, all_three (λ (d : ℕ × ℕ). d.0 < 64) _ _ _ (omega arith) (omega arith) (omega arith));
+    own = all_one OwnListsRise _ (rise_two (λ (m : Mapping). m.start) _ _ (omega arith), rise_three (λ (d : ℕ × ℕ). d.0) _ _ _ (omega arith) (omega arith));
+    regs = all_one RegsFit _ (omega arith, refl, registers_fit);
+    placed = both_maps IsUserMapping (refl, some, omega arith, omega (arith, few), omega arith) (refl, omega arith, omega arith, omega arith, omega arith);
+    apart = all_one (λ (q : Proc). AreApart q.maps) _ (pairs_two (λ (m n : Mapping). end_of m ≤ n.start) _ _ (omega (arith, few)));
+    states = all_one (ProcValid procs) _ (refl, (omega arith, omega arith, omega (arith, few)), inl refl);
   }
 
-  next_holds : NextValid (first_frame pages)
-  unfolding NextValid NextIsAbove
-  next_holds = (
-    (all_one (λ (q : Proc). q.pid < 2) _ (omega arith), all_two (λ (o : ObjectRec). o.number < 2) _ _ (omega arith) (omega arith), all_two (λ (o : Open). o.number < 2) _ _ (omega arith) (omega arith), λ _ _ lt. absurd (omega arith), λ _ _ lt. absurd (omega arith)),
-    omega arith,
-    omega arith,
-  )
+  memory_object : (o : ObjectRec) → 1 ≤ o.pages → mappers procs o.number ≤ 1 → IsMemoryObject procs o
+  unfolding IsMemoryObject IsPrivateObject IsMappedAs
+  memory_object o least once = (least, inr (both_maps (λ m. m.object ≡ o.number → m.shared ≡ false) (λ _. refl) (λ _. refl), once))
 
-  mappings_hold : MappingsValid (first_objects pages) (first_process pages)
-  unfolding MappingsValid IsUserMapping IsInside AreApart
-  mappings_hold = (
-    all_two (λ (m : Mapping). IsUserMapping m × IsInside (first_objects pages) m) _ _
-        ((refl, some, omega arith, omega (arith, few), omega arith), (0, image_object pages, omega arith, refl, (refl, omega arith)))
-        ((refl, omega arith, omega arith, omega arith, omega arith), (1, stack_object, omega arith, refl, (refl, omega arith))),
-    pairs_two (λ (m n : Mapping). end_of m ≤ n.start) _ _ (omega (arith, few)),
-  )
-
-  private_object : (number : ℕ) → IsMappedAs false number (first_process pages)
-  unfolding IsMappedAs
-  private_object number = all_two (λ (m : Mapping). m.object ≡ number → m.shared ≡ false) _ _ (λ _. refl) (λ _. refl)
-
-  memory_object : (o : ObjectRec) → 1 ≤ o.pages → mappers (first_process pages ∷ []) o.number ≡ 1 → IsMemoryObject (first_process pages ∷ []) o
-  unfolding IsMemoryObject IsPrivateObject
-  memory_object o least once = (least, inr (all_one (IsMappedAs false o.number) (first_process pages) (private_object o.number), once))
-
-  objects_hold : ObjectsValid (first_frame pages)
-  unfolding ObjectsValid mappers maps_object
-  objects_hold =
-      all_two (λ (o : ObjectRec). (is_of_file [] o.number ≡ true) ⊎ IsMemoryObject (first_process pages ∷ []) o) _ _
-      (inr (memory_object (image_object pages) some refl)) (inr (memory_object stack_object (omega arith) refl))
-
-  is_owned : (number : ℕ) → Any (λ (d : ℕ × ℕ). d.1 ≡ number) (first_process pages).fds → IsOwned (first_process pages ∷ []) number
-  unfolding IsOwned Owns
-  is_owned number at = (0, first_process pages, omega arith, refl, at)
+  maps_hold : MapsSound procs (first_objects pages) []
+  unfolding IsInside mappers maps_object
+  maps_hold = record {
+    inside = both_maps (IsInside (first_objects pages)) (0, image_object pages, omega arith, refl, (refl, omega arith)) (1, stack_object, omega arith, refl, (refl, omega arith));
+    agree = all_two (λ (o : ObjectRec). (is_of_file [] o.number ≡ true) ⊎ IsMemoryObject procs o) _ _ (inr (memory_object (image_object pages) some (omega arith))) (inr (memory_object stack_object (omega arith) (omega arith)));
+    unmapped = λ _ _ lt. absurd (omega arith);
+  }
 
   first_open : IsOpen first_opens 0
   unfolding IsOpen
@@ -207,41 +164,55 @@ module _ (pages : ℕ) (some : 1 ≤ pages) (few : pages ≤ 4096) where
   unfolding IsOpen
   second_open = (1, record { number = 1; kind = Outside; offset = 0; flags = 0 }, omega arith, refl, refl)
 
-  descriptions_hold : DescriptionsValid (first_frame pages)
-  unfolding DescriptionsValid OpenValid DescriptorsValid
-  descriptions_hold = (
-    all_two (OpenValid (first_frame pages)) _ _
-        (is_owned 0 (0, (0, 0), omega arith, refl, refl), tt, (refl, refl))
-        (is_owned 1 (1, (1, 1), omega arith, refl, refl), tt, (refl, refl)),
-    all_one (DescriptorsValid first_opens) (first_process pages) (all_three (λ (d : ℕ × ℕ). IsOpen first_opens d.1) _ _ _ first_open second_open second_open),
-  )
+  names_hold : NamesSound procs first_opens
+  unfolding DescriptorsValid
+  names_hold = record { fds = all_one (DescriptorsValid first_opens) (first_process pages) (all_three (λ (d : ℕ × ℕ). IsOpen first_opens d.1) _ _ _ first_open second_open second_open) }
 
-  streams_hold : StreamsValid (first_frame pages)
-  unfolding StreamsValid
-  streams_hold = (λ _ _ lt. absurd (omega arith), λ _ _ lt. absurd (omega arith))
+  opens_hold : OpensSound 2 first_opens [] [] []
+  opens_hold = record {
+    count = omega arith;
+    rise = rise_two (λ (o : Open). o.number) _ _ (omega arith);
+    below = all_two (λ (o : Open). o.number < 2) _ _ (omega arith) (omega arith);
+    positions = all_two (λ (o : Open). PositionValid o.kind o.offset o.flags) _ _ (refl, refl) (refl, refl);
+    targets = all_two (λ (o : Open). TargetIsThere [] [] [] o.kind) _ _ tt tt;
+  }
 
-  process_holds : ProcValid (first_process pages ∷ []) (first_process pages)
-  unfolding ProcValid RunningValid BreakValid
-  process_holds = (refl, (omega arith, omega arith, omega (arith, few)), inl refl)
+  objects_hold : ObjectsSound 2 (first_objects pages) []
+  unfolding is_of_file
+  objects_hold = record {
+    count = omega arith;
+    pages = omega (arith, few);
+    sizes = all_two (λ (o : ObjectRec). o.pages ≤ 16384) _ _ (omega (arith, few)) (omega arith);
+    rise = rise_two (λ (o : ObjectRec). o.number) _ _ (omega arith);
+    below = all_two (λ (o : ObjectRec). o.number < 2) _ _ (omega arith) (omega arith);
+  }
 
-  out_holds : OutValid (first_frame pages).out
-  unfolding OutValid
-  out_holds = (omega arith, omega arith, omega arith, omega arith, omega arith)
+  frame_sound : FrameIsSound (first_frame pages)
+  unfolding NextFits AreBytes OutValid
+  frame_sound = record {
+    procs = procs_hold;
+    maps = maps_hold;
+    names = names_hold;
+    opens = opens_hold;
+    pipes = record { count = omega arith; rise = rise_none (λ (q : Pipe). q.number); below = λ _ _ lt. absurd (omega arith); ends = λ _ _ lt. absurd (omega arith); sizes = λ _ _ lt. absurd (omega arith); bytes = λ _ _ lt. absurd (omega arith) };
+    pairs = record { count = omega arith; rise = rise_none (λ (q : Pair). q.number); below = λ _ _ lt. absurd (omega arith); ends = λ _ _ lt. absurd (omega arith); sizes = λ _ _ lt. absurd (omega arith); bytes = λ _ _ lt. absurd (omega arith) };
+    objects = objects_hold;
+    files = record { count = omega arith; fits = λ _ _ lt. absurd (omega arith); rise = names_rise; there = λ _ _ lt. absurd (omega arith); alone = λ _ _ lt. absurd (omega arith) };
+    out = record { positions = (omega arith, omega arith, omega arith, omega arith, omega arith); bytes = All-nil (λ b. b < 256) };
+    next = ((omega arith, omega arith, omega arith, omega arith), omega arith, omega arith);
+  }
+
+  held_holds : AllHeld (first_frame pages)
+  unfolding is_held is_kept is_of_file maps_object
+  held_holds = record {
+    opens = all_two (λ (o : Open). IsTrue (is_held procs o.number)) (record { number = 0; kind = Nothing; offset = 0; flags = 0 }) (record { number = 1; kind = Outside; offset = 0; flags = 0 }) refl refl;
+    objects = all_two (λ (o : ObjectRec). IsTrue (is_kept [] procs o.number)) (image_object pages) stack_object refl refl;
+    pipes = λ _ _ lt. absurd (omega arith);
+    pairs = λ _ _ lt. absurd (omega arith);
+  }
 
   frame_holds : FrameValid (first_frame pages)
-  frame_holds = record {
-    limits = limits_hold;
-    order = lists_rise;
-    numbers = numbers_fit;
-    next = next_holds;
-    mappings = all_one (MappingsValid (first_objects pages)) (first_process pages) mappings_hold;
-    objects = objects_hold;
-    files = λ _ _ lt. absurd (omega arith);
-    descriptions = descriptions_hold;
-    streams = streams_hold;
-    procs = all_one (ProcValid (first_process pages ∷ [])) (first_process pages) process_holds;
-    out = out_holds;
-  }
+  frame_holds = record { sound = frame_sound; held = held_holds }
 
   built_holds : OnlyBuilt (first_frame pages)
   unfolding IsAlone
@@ -274,11 +245,10 @@ first_checkpointed image some few bytes =
     let least : 1 ≤ pages_for image = omega (arith, some) in
     let most : pages_for image ≤ 4096 = omega (arith, few) in
     record {
-      valid = record {
-        frame = frame_holds (pages_for image) least most;
-        memory = ((refl, image_size image, bytes_hold image _ bytes), ((refl, length-replicate {A = ℕ} 4096 0, bytes_hold [] 4096 none_hold), tt));
-        files = λ _ _ lt. absurd (omega arith);
-      };
+      valid = group_of_parts (flat_group image) (frame_holds (pages_for image) least most) (record {
+        bytes = ((refl, image_size image, bytes_hold image _ bytes), ((refl, length-replicate {A = ℕ} 4096 0, bytes_hold [] 4096 none_hold), tt));
+        zeros = λ _ _ lt. absurd (omega arith);
+      });
       built = built_holds (pages_for image) least most;
       all_marked = refl;
     }

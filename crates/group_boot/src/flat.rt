@@ -139,7 +139,8 @@ fn fill(page: &mut PageBuf, image: &[u8], number: u64)
 
 /// The pages of an image that aren't all zero.
 fn image_layer(alloc: Global, image: &[u8]) -> Result<Layer, NoMemory>
-    ensures { IfOk result (λ layer. (page : ℕ) → page < pages_taken image.now → page_in layer page ≡ image_page image.now page) }
+    ensures { IfOk result (λ layer. (page : ℕ) → page < pages_taken image.now
+        → page_in layer page ≡ image_page image.now page) }
 {
     let mut layer = Layer::new(alloc);
     let mut page = PageBuf::zeroed(alloc)?;
@@ -155,7 +156,8 @@ fn image_layer(alloc: Global, image: &[u8]) -> Result<Layer, NoMemory>
 /// The image's pages in object 0, and none of the stack in object 1.
 fn layers(alloc: Global, image: &[u8]) -> Result<Seq<(u64, Layer)>, NoMemory>
     ensures numbers { IfOk result (λ layers. map {B = ℕ} (λ l. l.0) layers ≡ 0 ∷ 1 ∷ []) }
-    ensures memory { IfOk result (λ layers. memory_of (flat_group image.now).frame.objects layers ≡ (flat_group image.now).memory) }
+    ensures memory { IfOk result (λ layers. memory_of (flat_group image.now).frame.objects layers
+        ≡ (flat_group image.now).memory) }
 {
     let mut layers = Seq::new(alloc);
     layers.push((0, image_layer(alloc, image)?))?;

@@ -54,7 +54,8 @@ fn flat_name(manifest: &[u8]) -> Option<&[u8]>
 
 /// The file of this name.
 fn read_file<F: Files>(files: &mut F, alloc: Global, name: &str) -> Result<Vec<u8>, LoadRefused>
-    ensures ok { IfOk result (λ bytes. ForSome (F.view files.old).contents (λ held. held name.now ≡ Some bytes.items)) }
+    ensures ok { IfOk result (λ bytes. ForSome (F.view files.old).contents
+        (λ held. held name.now ≡ Some bytes.items)) }
     ensures err { IfErr result (λ e. NoFile name.now (F.view files.old) (F.view files.new) e) }
     ensures contents { (F.view files.new).contents ≡ (F.view files.old).contents }
     ensures later { (F.view files.old).faults ≤ (F.view files.new).faults }
@@ -69,8 +70,10 @@ fn read_file<F: Files>(files: &mut F, alloc: Global, name: &str) -> Result<Vec<u
 
 /// The image of this name.
 fn read_image<F: Files>(files: &mut F, alloc: Global, name: &str) -> Result<Vec<u8>, LoadRefused>
-    ensures ok { IfOk result (λ image. ForSome (F.view files.old).contents (λ held. held name.now ≡ Some image.items)) }
-    ensures size { IfOk result (λ image. (1 ≤ length image.items) × (length image.items ≤ 16777216)) }
+    ensures ok { IfOk result (λ image. ForSome (F.view files.old).contents
+        (λ held. held name.now ≡ Some image.items)) }
+    ensures size { IfOk result (λ image. (1 ≤ length image.items)
+        × (length image.items ≤ 16777216)) }
     ensures err { IfErr result (λ e. NoImage name.now (F.view files.old) (F.view files.new) e) }
     ensures contents { (F.view files.new).contents ≡ (F.view files.old).contents }
     ensures later { (F.view files.old).faults ≤ (F.view files.new).faults }
@@ -101,9 +104,12 @@ fn image_name(manifest: &[u8]) -> Option<&str>
 
 /// Reads the manifest, and the flat image that it names.
 pub fn load<F: Files>(alloc: Global, files: &mut F, manifest: &str) -> Result<Vec<u8>, LoadRefused>
-    ensures ok { IfOk result (λ image. ForSome (F.view files.old).contents (λ held. NamesImage held manifest.now image.items)) }
-    ensures size { IfOk result (λ image. (1 ≤ length image.items) × (length image.items ≤ 16777216)) }
-    ensures err { IfErr result (λ e. RefusedByFiles manifest.now (F.view files.old) (F.view files.new) e) }
+    ensures ok { IfOk result (λ image. ForSome (F.view files.old).contents
+        (λ held. NamesImage held manifest.now image.items)) }
+    ensures size { IfOk result (λ image. (1 ≤ length image.items)
+        × (length image.items ≤ 16777216)) }
+    ensures err { IfErr result (λ e. RefusedByFiles manifest.now (F.view files.old)
+        (F.view files.new) e) }
     ensures contents { (F.view files.new).contents ≡ (F.view files.old).contents }
     ensures later { (F.view files.old).faults ≤ (F.view files.new).faults }
 {

@@ -7,6 +7,7 @@ pub mod Mappings
 pub mod Descriptions
 pub mod Streams
 pub mod Processes
+pub mod Held
 pub mod Valid
 pub mod Built
 pub mod Reserved

@@ -39,7 +39,7 @@ pages_at maps address (b ∷ bs) = page_at maps (wrapped address) ++ pages_at ma
 abbrev pub pages_of_writes : List Mapping → List Write → List (ℕ × ℕ)
 pages_of_writes maps writes = flat_map (λ w. pages_at maps w.address w.bytes) writes
 
--- the pages that a step stores to, by an instruction or a call; those of n steps; and those of a turn
+-- the pages that a step stores to, by an instruction or a call
 unfoldable pub touched_by_step : Group → ℕ → List (ℕ × ℕ)
 touched_by_step g pid = elim (runner g pid) [ None ↦ [] | Some p ↦ pages_of_writes p.maps (writes_in g p) ]
 

@@ -1,4 +1,4 @@
-ghost use Rattle.std.specs.Prelude.{◌≡◌, ◌↔◌, ◌≤◌, [], IsTrue, All, length};
+ghost use Rattle.std.specs.Prelude.{◌≡◌, ◌↔◌, ◌≤◌, IsTrue, All, length};
 ghost use Rattle.group_defs.specs.Built.{IsPlain, IsAlone, OnlyBuilt};
 
 use crate::frame::{Frame, Proc};
@@ -26,21 +26,13 @@ fn has_one_process(f: &Frame) -> bool
     f.procs.len() <= 1 && f.procs.as_slice().iter().all(|p| is_alone(p))
 }
 
-fn has_no_streams(f: &Frame) -> bool
-    ensures { IsTrue result ↔ ((f.now.files ≡ []) × (f.now.pipes ≡ []) × (f.now.pairs ≡ [])) }
-{
-    f.files.as_slice().is_empty() && f.pipes.as_slice().is_empty() && f.pairs.as_slice().is_empty()
-}
-
-fn opens_are_plain(f: &Frame) -> bool
-    ensures { IsTrue result ↔ All (λ o. IsPlain o.kind) f.now.opens }
-{
-    f.opens.as_slice().iter().all(|o| is_plain(o.kind))
-}
-
 /// Whether a frame has only what is built so far.
 pub fn only_built(f: &Frame) -> bool
     ensures { IsTrue result ↔ OnlyBuilt f.now }
 {
-    has_one_process(f) && has_no_streams(f) && opens_are_plain(f)
+    has_one_process(f)
+        && f.files.as_slice().is_empty()
+        && f.pipes.as_slice().is_empty()
+        && f.pairs.as_slice().is_empty()
+        && f.opens.as_slice().iter().all(|o| is_plain(o.kind))
 }

@@ -1,22 +1,13 @@
-ghost use Rattle.std.specs.Prelude.{◌≡◌, ◌↔◌, ◌⊎◌, [], IsTrue, All, Any, length};
-ghost use Rattle.group_defs.specs.Descriptions.{Owns, IsOwned, IsOpen, DescriptorsValid, HasFile, HasPipe, HasPair, TargetIsThere, IsFileFlags, PositionValid, OpenValid, DescriptionsValid};
+ghost use Rattle.std.specs.Prelude.{◌≡◌, ◌↔◌, ◌⊎◌, ◌<◌, ◌≤◌, IsTrue, All, Any, length};
+ghost use Rattle.tables.specs.Rising.{Rise};
+ghost use Rattle.group_defs.specs.Descriptions.{IsOpen, DescriptorsValid, IsFileFlags, PositionValid};
+ghost use Rattle.group_defs.specs.Valid.{NamesSound, OpensSound, TargetIsThere};
 
 use crate::frame::{Frame, Proc};
 use descriptors::{Open, OpenKind};
-
-#[tactic(auto, unfolding(crate::specs::Descriptions::Owns))]
-fn owns(number: u64, p: &Proc) -> bool
-    ensures { IsTrue result ↔ Owns number p.now }
-{
-    p.fds.as_slice().iter().any(|d| d.1 == number)
-}
-
-#[tactic(auto, unfolding(crate::specs::Descriptions::IsOwned))]
-fn is_owned(procs: &[Proc], number: u64) -> bool
-    ensures { IsTrue result ↔ IsOwned procs.now number }
-{
-    procs.iter().any(|p| owns(number, p))
-}
+use group_files::FileRec;
+use pipes_socks::{Pair, Pipe};
+use tables::rises;
 
 #[tactic(auto, unfolding(crate::specs::Descriptions::IsOpen))]
 fn is_open(opens: &[Open], number: u64) -> bool
@@ -32,35 +23,42 @@ fn descriptors_valid(opens: &[Open], p: &Proc) -> bool
     p.fds.as_slice().iter().all(|d| is_open(opens, d.1))
 }
 
-#[tactic(auto, unfolding(crate::specs::Descriptions::HasFile))]
-fn has_file(f: &Frame, object: u64) -> bool
-    ensures { IsTrue result ↔ HasFile f.now object }
+/// Whether each descriptor names a description.
+pub fn names_sound(procs: &[Proc], opens: &[Open]) -> bool
+    ensures { IsTrue result ↔ NamesSound procs.now opens.now }
 {
-    f.files.as_slice().iter().any(|file| file.object == object)
+    procs.iter().all(|p| descriptors_valid(opens, p))
 }
 
-#[tactic(auto, unfolding(crate::specs::Descriptions::HasPipe))]
-fn has_pipe(f: &Frame, pipe: u64) -> bool
-    ensures { IsTrue result ↔ HasPipe f.now pipe }
+fn has_file(files: &[FileRec], object: u64) -> bool
+    ensures { IsTrue result ↔ Any (λ f. f.object ≡ object) files.now }
 {
-    f.pipes.as_slice().iter().any(|p| p.number == pipe)
+    files.iter().any(|file| file.object == object)
 }
 
-#[tactic(auto, unfolding(crate::specs::Descriptions::HasPair))]
-fn has_pair(f: &Frame, pair: u64) -> bool
-    ensures { IsTrue result ↔ HasPair f.now pair }
+fn has_pipe(pipes: &[Pipe], pipe: u64) -> bool
+    ensures { IsTrue result ↔ Any (λ p. p.number ≡ pipe) pipes.now }
 {
-    f.pairs.as_slice().iter().any(|p| p.number == pair)
+    pipes.iter().any(|p| p.number == pipe)
+}
+
+fn has_pair(pairs: &[Pair], pair: u64) -> bool
+    ensures { IsTrue result ↔ Any (λ p. p.number ≡ pair) pairs.now }
+{
+    pairs.iter().any(|p| p.number == pair)
 }
 
 fn target_is_there(f: &Frame, kind: OpenKind) -> bool
-    ensures { IsTrue result ↔ TargetIsThere f.now kind }
+    ensures { IsTrue result ↔ TargetIsThere f.now.files f.now.pipes f.now.pairs kind }
 {
     match kind {
         OpenKind::Nothing | OpenKind::Outside => true,
-        OpenKind::File { object } => has_file(f, object),
-        OpenKind::PipeRead { pipe } | OpenKind::PipeWrite { pipe } => has_pipe(f, pipe),
-        OpenKind::PairEnd { pair, end } => has_pair(f, pair) && end < 2,
+        OpenKind::File { object } => has_file(f.files.as_slice(), object),
+        OpenKind::PipeRead { pipe } | OpenKind::PipeWrite { pipe } => has_pipe(
+            f.pipes.as_slice(),
+            pipe,
+        ),
+        OpenKind::PairEnd { pair, end } => has_pair(f.pairs.as_slice(), pair) && end < 2,
     }
 }
 
@@ -80,25 +78,23 @@ fn position_valid(kind: OpenKind, offset: u64, flags: u32) -> bool
     }
 }
 
-#[tactic(auto, unfolding(crate::specs::Descriptions::OpenValid))]
-fn open_valid(f: &Frame, o: &Open) -> bool
-    ensures { IsTrue result ↔ OpenValid f.now o.now }
+fn opens_rise(next: u64, opens: &[Open]) -> bool
+    ensures { IsTrue result ↔ ((length opens.now ≤ 1024) × Rise (λ o. o.number) opens.now
+        × All (λ o. o.number < next) opens.now) }
 {
-    is_owned(f.procs.as_slice(), o.number)
-        && target_is_there(f, o.kind)
-        && position_valid(o.kind, o.offset, o.flags)
+    opens.len() <= 1_024 && rises(opens) && opens.iter().all(|o| o.number < next)
 }
 
-/// Whether each description has a descriptor and what it is open at, and each descriptor a
-/// description.
-#[tactic(auto, unfolding(crate::specs::Descriptions::DescriptionsValid))]
-pub fn descriptions_valid(f: &Frame) -> bool
-    ensures { IsTrue result ↔ DescriptionsValid f.now }
+/// Whether the descriptions are few enough, rise, and have a valid position and a target that is
+/// there.
+pub fn opens_sound(f: &Frame) -> bool
+    ensures { IsTrue result ↔ OpensSound f.now.next.descr f.now.opens f.now.files f.now.pipes
+        f.now.pairs }
 {
     let opens = f.opens.as_slice();
-    opens.iter().all(|o| open_valid(f, o))
-        && f.procs
-            .as_slice()
+    opens_rise(f.next.descr, opens)
+        && opens
             .iter()
-            .all(|p| descriptors_valid(opens, p))
+            .all(|o| position_valid(o.kind, o.offset, o.flags))
+        && opens.iter().all(|o| target_is_there(f, o.kind))
 }

@@ -29,20 +29,24 @@ pub fn local_steps_are_private()
 /// A step of one process leaves every other running process as it is, but for a parent that it ends, who is none then; and
 /// it touches no page of an object that its own process doesn't map.
 pub fn others_stay()
-    ensures processes { (g : Group) (pid other : ℕ) (p : Proc) → (pid == other) ≡ false → runner g other ≡ Some p →
-        (q : Proc) × (runner (do_step g pid) other ≡ Some q) × (q ≡ record p { parent = q.parent })
+    ensures processes { (g : Group) (pid other : ℕ) (p : Proc) → (pid == other) ≡ false
+        → runner g other ≡ Some p → (q : Proc) × (runner (do_step g pid) other ≡ Some q)
+        × (q ≡ record p { parent = q.parent })
         × ((q.parent ≡ p.parent) ⊎ ((q.parent ≡ 0) × (p.parent ≡ pid))) }
-    ensures pages { (g : Group) (pid : ℕ) (p : Proc) (object page : ℕ) → runner g pid ≡ Some p → maps_object object p ≡ false →
-        is_among (touched_by_step g pid) (object, page) ≡ false }
+    ensures pages { (g : Group) (pid : ℕ) (p : Proc) (object page : ℕ) → runner g pid ≡ Some p
+        → maps_object object p ≡ false → is_among (touched_by_step g pid) (object, page) ≡ false }
 {}
 
 /// What a process stores in the flat table is what it then sees, and each byte is seen through every mapping of its object,
 /// of other processes too.
 pub fn stores_are_seen()
-    ensures inside { (g : Group) (pid : ℕ) (p : Proc) → GroupIsValid g → runner g pid ≡ Some p → AllInside g.memory p.maps }
-    ensures seen { (memory : List (ℕ × List ℕ)) (maps : List Mapping) (writes : List Write) → AllInside memory maps →
-        cells_of (with_writes memory maps writes) maps ≡ stored_all (cells_of memory maps) writes }
-    ensures by_all { (memory : List (ℕ × List ℕ)) (maps others : List Mapping) (a b x : ℕ) → AllInside memory maps →
-        cells_of (with_byte_at memory (mapping_at maps a) a b) others x
-        ≡ option_map (λ d. if is_same_place (cells_of memory maps a) d then record d { byte = b } else d) (cells_of memory others x) }
+    ensures inside { (g : Group) (pid : ℕ) (p : Proc) → GroupIsValid g → runner g pid ≡ Some p
+        → AllInside g.memory p.maps }
+    ensures seen { (memory : List (ℕ × List ℕ)) (maps : List Mapping) (writes : List Write)
+        → AllInside memory maps → cells_of (with_writes memory maps writes) maps
+        ≡ stored_all (cells_of memory maps) writes }
+    ensures by_all { (memory : List (ℕ × List ℕ)) (maps others : List Mapping) (a b x : ℕ)
+        → AllInside memory maps → cells_of (with_byte_at memory (mapping_at maps a) a b) others x
+        ≡ option_map (λ d. if is_same_place (cells_of memory maps a) d then record d { byte = b }
+        else d) (cells_of memory others x) }
 {}

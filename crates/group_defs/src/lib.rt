@@ -9,8 +9,8 @@
 mod built;
 pub mod calls;
 mod descriptions;
-mod ends;
 mod frame;
+mod held;
 mod keyed;
 pub mod laws;
 mod mappings;
@@ -19,6 +19,7 @@ mod objects;
 mod order;
 mod processes;
 mod sizes;
+mod stream_ends;
 mod user_mem;
 mod valid;
 

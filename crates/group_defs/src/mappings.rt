@@ -1,9 +1,9 @@
-ghost use Rattle.std.specs.Prelude.{◌≡◌, ◌↔◌, IsTrue, All};
+ghost use Rattle.std.specs.Prelude.{◌≡◌, ◌↔◌, IsTrue};
 ghost use Rattle.address_maps.specs.Mappings as of_mappings;
-ghost use Rattle.group_defs.specs.Mappings.{IsUserMapping, IsInside, MappingsValid};
+ghost use Rattle.group_defs.specs.Mappings.{IsUserMapping, IsInside};
 ghost use Rattle.address_maps.specs.Mappings.{AreApart};
 
-use crate::frame::{ObjectRec, Proc};
+use crate::frame::ObjectRec;
 use address_maps::Mapping;
 
 fn end_of(m: &Mapping) -> u128
@@ -12,15 +12,17 @@ fn end_of(m: &Mapping) -> u128
     u128::from(m.start) + 4_096 * u128::from(m.pages)
 }
 
+/// Whether a mapping lies where one may lie.
 #[tactic(auto, unfolding(crate::specs::Mappings::IsUserMapping))]
-fn is_placed(m: &Mapping) -> bool
+pub fn is_placed(m: &Mapping) -> bool
     ensures { IsTrue result ↔ IsUserMapping m.now }
 {
     m.start % 4_096 == 0 && m.pages >= 1 && m.start >= 4_096 && end_of(m) <= 1 << 38 && m.prot <= 7
 }
 
+/// Whether a mapping lies inside its object.
 #[tactic(auto, unfolding(crate::specs::Mappings::IsInside))]
-fn is_inside(objects: &[ObjectRec], m: &Mapping) -> bool
+pub fn is_inside(objects: &[ObjectRec], m: &Mapping) -> bool
     ensures { IsTrue result ↔ IsInside objects.now m.now }
 {
     let end = u128::from(m.first) + u128::from(m.pages);
@@ -29,18 +31,9 @@ fn is_inside(objects: &[ObjectRec], m: &Mapping) -> bool
         .any(|o| o.number == m.object && end <= u128::from(o.pages))
 }
 
-fn are_apart(maps: &[Mapping]) -> bool
+/// Whether no two mappings share a page.
+pub fn are_apart(maps: &[Mapping]) -> bool
     ensures { IsTrue result ↔ AreApart maps.now }
 {
     maps.is_sorted_by(|m, n| end_of(m) <= u128::from(n.start))
-}
-
-/// Whether each mapping of a process lies where one may lie, inside its object and apart from the
-/// others.
-#[tactic(auto, unfolding(crate::specs::Mappings::MappingsValid))]
-pub fn mappings_valid(objects: &[ObjectRec], p: &Proc) -> bool
-    ensures { IsTrue result ↔ MappingsValid objects.now p.now }
-{
-    let maps = p.maps.as_slice();
-    maps.iter().all(|m| is_placed(m) && is_inside(objects, m)) && are_apart(maps)
 }

@@ -1,8 +1,20 @@
-ghost use Rattle.std.specs.Prelude.{◌≡◌, ◌↔◌, IsTrue, All};
+ghost use Rattle.std.specs.Prelude.{◌≡◌, ◌↔◌, ◌<◌, ◌≤◌, IsTrue, All, length};
+ghost use Rattle.tables.specs.Rising.{Rise};
+ghost use Rattle.address_maps.specs.Mappings.{AreApart};
 ghost use Rattle.group_defs.specs.Group as group;
+ghost use Rattle.group_defs.specs.Mappings.{IsUserMapping};
+ghost use Rattle.group_defs.specs.Numbers.{RegsFit};
+ghost use Rattle.group_defs.specs.Order.{OwnListsRise};
+ghost use Rattle.group_defs.specs.Sizes.{ProcFits};
+ghost use Rattle.group_defs.specs.Valid.{ProcsSound};
 ghost use Rattle.group_defs.specs.Processes.{HasParent, BreakValid, RunningValid, IsWaitStatus, IsCleared, EndedValid, ProcValid};
 
 use crate::frame::{Proc, ProcState};
+use crate::mappings::{are_apart, is_placed};
+use crate::numbers::regs_fit;
+use crate::order::own_lists_rise;
+use crate::sizes::proc_fits;
+use tables::rises;
 
 fn is_running(p: &Proc) -> bool
     ensures { result ≡ group.is_running p.now }
@@ -72,9 +84,35 @@ fn proc_valid(procs: &[Proc], p: &Proc) -> bool
     }
 }
 
-/// Whether each process is a valid running or ended one among them.
-pub fn procs_valid(procs: &[Proc]) -> bool
-    ensures { IsTrue result ↔ All (ProcValid procs.now) procs.now }
+fn procs_rise(next: u32, procs: &[Proc]) -> bool
+    ensures { IsTrue result ↔ ((length procs.now ≤ 64) × Rise (λ p. p.pid) procs.now
+        × All (λ p. p.pid < next) procs.now) }
 {
-    procs.iter().all(|p| proc_valid(procs, p))
+    procs.len() <= 64 && rises(procs) && procs.iter().all(|p| p.pid < next)
+}
+
+fn own_lists_fit(procs: &[Proc]) -> bool
+    ensures { IsTrue result ↔ (All ProcFits procs.now × All OwnListsRise procs.now
+        × All RegsFit procs.now) }
+{
+    procs.iter().all(|p| proc_fits(p))
+        && procs.iter().all(|p| own_lists_rise(p))
+        && procs.iter().all(|p| regs_fit(p))
+}
+
+fn maps_are_placed(p: &Proc) -> bool
+    ensures { IsTrue result ↔ All IsUserMapping p.now.maps }
+{
+    p.maps.as_slice().iter().all(|m| is_placed(m))
+}
+
+/// Whether the processes are few enough and rise, and each is valid by itself and among them.
+pub fn procs_sound(next: u32, procs: &[Proc]) -> bool
+    ensures { IsTrue result ↔ ProcsSound next procs.now }
+{
+    procs_rise(next, procs)
+        && own_lists_fit(procs)
+        && procs.iter().all(|p| maps_are_placed(p))
+        && procs.iter().all(|p| are_apart(p.maps.as_slice()))
+        && procs.iter().all(|p| proc_valid(procs, p))
 }

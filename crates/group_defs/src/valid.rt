@@ -1,29 +1,19 @@
-ghost use Rattle.std.specs.Prelude.{◌↔◌, IsTrue, All};
+ghost use Rattle.std.specs.Prelude.{◌↔◌, IsTrue};
 ghost use Rattle.group_defs.specs.Built.{OnlyBuilt};
-ghost use Rattle.group_defs.specs.Descriptions.{DescriptionsValid};
-ghost use Rattle.group_defs.specs.Mappings.{MappingsValid};
-ghost use Rattle.group_defs.specs.Numbers.{NumbersFit, NextValid};
-ghost use Rattle.group_defs.specs.Objects.{ObjectsValid, FileValid};
-ghost use Rattle.group_defs.specs.Order.{ListsRise};
-ghost use Rattle.group_defs.specs.Processes.{ProcValid};
-ghost use Rattle.group_defs.specs.Sizes.{WithinLimits};
-ghost use Rattle.group_defs.specs.Streams.{StreamsValid};
-ghost use Rattle.group_defs.specs.Valid.{FrameValid, OutValid};
+ghost use Rattle.group_defs.specs.Valid.{FrameIsSound, FrameValid, MapsSound, NamesSound, ObjectsSound, OpensSound, OutSound, PairsSound, PipesSound, FilesSound, ProcsSound};
 
 use crate::built::only_built;
-use crate::descriptions::descriptions_valid;
-use crate::ends::streams_valid;
+use crate::descriptions::{names_sound, opens_sound};
 use crate::frame::{Frame, Out};
-use crate::mappings::mappings_valid;
-use crate::numbers::{next_valid, numbers_fit};
-use crate::objects::{file_valid, objects_valid};
-use crate::order::lists_rise;
-use crate::processes::procs_valid;
-use crate::sizes::within_limits;
+use crate::held::all_held;
+use crate::numbers::{are_bytes, next_fits};
+use crate::objects::{files_sound, maps_sound, objects_sound};
+use crate::processes::procs_sound;
+use crate::stream_ends::{pairs_sound, pipes_sound};
 
 #[tactic(auto, unfolding(crate::specs::Valid::OutValid))]
-fn out_valid(out: &Out) -> bool
-    ensures { IsTrue result ↔ OutValid out.now }
+fn out_sound(out: &Out) -> bool
+    ensures { IsTrue result ↔ OutSound out.now }
 {
     let from = u128::from(out.from);
     let mark = u128::from(out.mark);
@@ -33,41 +23,52 @@ fn out_valid(out: &Out) -> bool
         && last <= u128::from(u64::MAX)
         && mark <= from + 1_048_576
         && last <= mark + 1_048_576
+        && are_bytes(out.bytes.as_slice())
 }
 
-fn lists_valid(f: &Frame) -> bool
-    ensures { IsTrue result ↔ (WithinLimits f.now × ListsRise f.now × NumbersFit f.now × NextValid f.now) }
+fn memory_sound(f: &Frame) -> bool
+    ensures { IsTrue result ↔ (ProcsSound f.now.next.pid f.now.procs
+        × MapsSound f.now.procs f.now.objects f.now.files
+        × ObjectsSound f.now.next.object f.now.objects f.now.files
+        × FilesSound f.now.objects f.now.files) }
 {
-    within_limits(f) && lists_rise(f) && numbers_fit(f) && next_valid(f)
-}
-
-fn memory_valid(f: &Frame) -> bool
-    ensures { IsTrue result ↔ (All (MappingsValid f.now.objects) f.now.procs
-        × ObjectsValid f.now × All (FileValid f.now) f.now.files) }
-{
+    let procs = f.procs.as_slice();
     let objects = f.objects.as_slice();
-    f.procs
-        .as_slice()
-        .iter()
-        .all(|p| mappings_valid(objects, p))
-        && objects_valid(f)
-        && f.files.as_slice().iter().all(|file| file_valid(f, file))
+    let files = f.files.as_slice();
+    procs_sound(f.next.pid, procs)
+        && maps_sound(procs, objects, files)
+        && objects_sound(f.next.object, objects, files)
+        && files_sound(objects, files)
 }
 
-fn tables_valid(f: &Frame) -> bool
-    ensures { IsTrue result ↔ (DescriptionsValid f.now × StreamsValid f.now
-        × All (ProcValid f.now.procs) f.now.procs × OutValid f.now.out) }
+fn streams_sound(f: &Frame) -> bool
+    ensures { IsTrue result ↔ (NamesSound f.now.procs f.now.opens
+        × OpensSound f.now.next.descr f.now.opens f.now.files f.now.pipes f.now.pairs
+        × PipesSound f.now.next.pipe f.now.opens f.now.pipes
+        × PairsSound f.now.next.pair f.now.opens f.now.pairs) }
 {
-    descriptions_valid(f)
-        && streams_valid(f)
-        && procs_valid(f.procs.as_slice())
-        && out_valid(&f.out)
+    let opens = f.opens.as_slice();
+    names_sound(f.procs.as_slice(), opens)
+        && opens_sound(f)
+        && pipes_sound(f.next.pipe, opens, f.pipes.as_slice())
+        && pairs_sound(f.next.pair, opens, f.pairs.as_slice())
+}
+
+fn frame_is_sound(f: &Frame) -> bool
+    ensures { IsTrue result ↔ FrameIsSound f.now }
+{
+    memory_sound(f)
+        && streams_sound(f)
+        && out_sound(&f.out)
+        && next_fits(&f.next)
+        && f.next.pid >= 1
+        && f.next.pid <= 32_768
 }
 
 fn rules_hold(f: &Frame) -> bool
     ensures { IsTrue result ↔ FrameValid f.now }
 {
-    lists_valid(f) && memory_valid(f) && tables_valid(f)
+    frame_is_sound(f) && all_held(f)
 }
 
 /// Whether a frame is one of a valid group that has only what is built so far, as far as a frame

@@ -105,7 +105,7 @@ module _ (fixed : Fixed) (maps : List Mapping) (r : Regs) (memory : List (ℕ ×
 
   registers : AreRegisters r
   unfolding RegsFit
-  registers = let fit = runs.valid.frame.numbers.procs 0 p (omega arith) in record { pc = fit.0; count = fit.1; numbers = fit.2 }
+  registers = let fit = runs.valid.sound.frame.procs.regs 0 p (omega arith) in record { pc = fit.0; count = fit.1; numbers = fit.2 }
 
   answered_fits : (value : ℕ) → value < 2 ^ 64 → AreRegisters (answered r value)
   answered_fits value fits = record {
@@ -115,10 +115,10 @@ module _ (fixed : Fixed) (maps : List Mapping) (r : Regs) (memory : List (ℕ ×
   }
 
   output_valid : OutValid out
-  output_valid = runs.valid.frame.out
+  output_valid = runs.valid.sound.frame.out.positions
 
   output_bytes : AreBytes out.bytes
-  output_bytes = runs.valid.frame.numbers.out
+  output_bytes = runs.valid.sound.frame.out.bytes
 
   after_valid : (after : Out) → Grew out after → OutValid after
   unfolding OutValid
@@ -133,7 +133,7 @@ module _ (fixed : Fixed) (maps : List Mapping) (r : Regs) (memory : List (ℕ ×
   -- it goes on after a call
   answer_follows : (after : Out) (value : ℕ) → value < 2 ^ 64 → Grew out after → Follows out (running_group fixed maps (answered r value) memory after)
   answer_follows after value fits grew = record {
-    runnable = running_stays fixed maps r (answered r value) memory memory out after runs (answered_fits value fits) (advanced_stays r (aligned fixed maps r memory out runs)) runs.valid.memory (after_valid after grew) grew.bytes;
+    runnable = running_stays fixed maps r (answered r value) memory memory out after runs (answered_fits value fits) (advanced_stays r (aligned fixed maps r memory out runs)) runs.valid.sound.memory.bytes (after_valid after grew) grew.bytes;
     grew = grew;
   }
 
@@ -161,7 +161,7 @@ module _ (fixed : Fixed) (maps : List Mapping) (r : Regs) (memory : List (ℕ ×
   number_follows : (t u : Bool) → Follows out (after_reply g p (if t then reply_map (with_out g) (write fixed.fds fixed.opens out (cells_of memory maps) r) else if u then exit r else refuses ENOSYS))
   number_follows true u =
       reply_follows (write fixed.fds fixed.opens out (cells_of memory maps) r)
-      (write_keeps fixed.fds fixed.opens out (cells_of memory maps) r output_valid output_bytes (λ a. seen_bytes fixed.objects memory maps a runs.valid.memory))
+      (write_keeps fixed.fds fixed.opens out (cells_of memory maps) r output_valid output_bytes (λ a. seen_bytes fixed.objects memory maps a runs.valid.sound.memory.bytes))
   number_follows false true = end_follows (256 * (a0 r % 256))
   number_follows false false = refusal_follows ENOSYS (omega arith)
 

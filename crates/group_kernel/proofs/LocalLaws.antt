@@ -48,7 +48,7 @@ no_step (traps code) none = refl
 module _ (fixed : Fixed) (maps : List Mapping) (r : Regs) (memory : List (ℕ × List ℕ)) (out : Out) (runs : IsRunnable (running_group fixed maps r memory out)) where
   pub aligned : r.pc % 4 ≡ 0
   unfolding ProcValid RunningValid
-  aligned = (runs.valid.frame.procs 0 (running_process fixed maps r) (omega arith)).0
+  aligned = (runs.valid.sound.frame.procs.states 0 (running_process fixed maps r) (omega arith)).0
 
   -- a step that stores these bytes, or nothing
   landed_as : (s : Regs) (write : Option Write) → instruction (cells_of memory maps) r ≡ steps s write
@@ -78,15 +78,15 @@ module _ (fixed : Fixed) (maps : List Mapping) (r : Regs) (memory : List (ℕ ×
       record {
         local = local_is fixed maps r memory out runs ∙ ap is_step is;
         group = same ∙ landing ∙ sym (landed_as s write is);
-        runnable = λ registers. subst IsRunnable (sym same) (running_stays fixed maps r s memory stored out out runs (subst AreRegisters regs registers) (pc_stays (cells_of memory maps) r s write is aligned) objects runs.valid.frame.out runs.valid.frame.numbers.out);
+        runnable = λ registers. subst IsRunnable (sym same) (running_stays fixed maps r s memory stored out out runs (subst AreRegisters regs registers) (pc_stays (cells_of memory maps) r s write is aligned) objects runs.valid.sound.frame.out.positions runs.valid.sound.frame.out.bytes);
       }
 
   steps_by : (maps' : List Mapping) (r' : Regs) (memory' : List (ℕ × List ℕ)) (cells' : Cells) (e : Effect) → instruction (cells_of memory maps) r ≡ e → IsAfterStep e (cells_of memory maps) r' cells'
       → table_of memory' maps' ≡ after_landing landed e (table_of memory maps) → Steps fixed maps r memory out maps' r' memory'
-  steps_by maps' r' memory' cells' (steps s None) is after table = made maps' r' s memory' memory None is table after.0 (no_write s) runs.valid.memory
+  steps_by maps' r' memory' cells' (steps s None) is after table = made maps' r' s memory' memory None is table after.0 (no_write s) runs.valid.sound.memory.bytes
   steps_by maps' r' memory' cells' (steps s (Some write)) is after table =
       made maps' r' s memory' (with_stored memory maps write.address write.bytes) (Some write) is table after.0 (one_write s write)
-      (bytes_kept fixed.objects memory maps write.address write.bytes (stores_bytes (cells_of memory maps) r s write is) runs.valid.memory)
+      (bytes_kept fixed.objects memory maps write.address write.bytes (stores_bytes (cells_of memory maps) r s write is) runs.valid.sound.memory.bytes)
   steps_by maps' r' memory' cells' calls is after table = absurd after
   steps_by maps' r' memory' cells' (traps code) is after table = absurd after
 

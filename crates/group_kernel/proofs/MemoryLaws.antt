@@ -10,15 +10,14 @@ use Rattle.rv64_isa.specs.Numbers.{bytes_of, wrapped}
 use Rattle.group_defs.specs.declared.frame.ObjectRec.{ObjectRec}
 use Rattle.group_defs.specs.declared.frame.Proc.{Proc}
 use Rattle.address_maps.specs.declared.maps.Mapping.{Mapping}
-use Rattle.address_maps.specs.Mappings.{has, mapping_at, end_of}
+use Rattle.address_maps.specs.Mappings.{AreApart, has, mapping_at, end_of}
 use Rattle.group_defs.specs.Built.{IsAlone}
 use Rattle.group_defs.specs.Cells.{bytes_in, object_place, with_byte, with_byte_at, with_stored, with_writes, AllInside}
 use Rattle.group_defs.specs.Group.{Group}
 use Rattle.tables.specs.Lists.{on_first}
-use Rattle.group_defs.specs.Mappings.{IsUserMapping, IsInside, MappingsValid}
+use Rattle.group_defs.specs.Mappings.{IsUserMapping, IsInside}
 use Rattle.lists.specs.Bytes.{AreBytes}
 use Rattle.tables.specs.Rising.{Rise}
-use Rattle.group_defs.specs.Sizes.{MemoryWithinLimits as FrameMemoryFits}
 use Rattle.group_defs.specs.Valid.{IsObject, GroupIsValid}
 use Rattle.group_kernel.specs.Memory.{TableFits, shape}
 use Rattle.group_kernel.proofs.MemoryReads.{entry_at, found_has}
@@ -220,19 +219,26 @@ inside_whole objects memory m rise zip (k, o, lt, at, holds) =
     let size : length (bytes_in memory m.object) ≡ 4096 * o.pages = size_is memory m.object ∙ ap (λ (l : List (ℕ × ℕ)). size_of (find (λ s. s.0 == m.object) l)) (shape_is objects memory zip) ∙ ap size_of found in
     omega (arith, size, holds.1)
 
-fits_with : (g : Group) (p : Proc) → GroupIsValid g → MappingsValid g.frame.objects p → IsAlone p → TableFits g.memory p.maps
-unfolding MappingsValid FrameMemoryFits IsAlone
-fits_with g p valid maps alone = record {
-  placed = All-weaker (λ m. IsUserMapping m × IsInside g.frame.objects m) IsUserMapping (λ m h. h.0) p.maps maps.0;
-  apart = maps.1;
-  unshared = alone.1;
-  inside = All-weaker (λ m. IsUserMapping m × IsInside g.frame.objects m) (λ m. 4096 * (m.first + m.pages) ≤ length (bytes_in g.memory m.object)) (λ m h. inside_whole g.frame.objects g.memory m valid.frame.order.objects valid.memory h.1) p.maps maps.0;
-  rise = shape_rise g.memory (subst (λ (l : List (ℕ × ℕ)). Rise (λ s. s.0) l) (sym (shape_is g.frame.objects g.memory valid.memory)) (rise_whole g.frame.objects valid.frame.order.objects));
-  bytes = zip_bytes g.frame.objects g.memory valid.memory;
-  sizes = shape_sizes g.memory (subst (All IsSmall) (sym (shape_is g.frame.objects g.memory valid.memory)) (sizes_whole g.frame.objects valid.frame.limits.memory.2));
-}
+fits_with : (g : Group) (p : Proc) → GroupIsValid g → All IsUserMapping p.maps → AreApart p.maps → All (IsInside g.frame.objects) p.maps → IsAlone p → TableFits g.memory p.maps
+unfolding IsAlone
+fits_with g p valid placed apart inside alone =
+    let objects = valid.sound.frame.objects in
+    let bytes = valid.sound.memory.bytes in
+    record {
+      placed = placed;
+      apart = apart;
+      unshared = alone.1;
+      inside = All-weaker (IsInside g.frame.objects) (λ m. 4096 * (m.first + m.pages) ≤ length (bytes_in g.memory m.object)) (λ m h. inside_whole g.frame.objects g.memory m objects.rise bytes h) p.maps inside;
+      rise = shape_rise g.memory (subst (λ (l : List (ℕ × ℕ)). Rise (λ s. s.0) l) (sym (shape_is g.frame.objects g.memory bytes)) (rise_whole g.frame.objects objects.rise));
+      bytes = zip_bytes g.frame.objects g.memory bytes;
+      sizes = shape_sizes g.memory (subst (All IsSmall) (sym (shape_is g.frame.objects g.memory bytes)) (sizes_whole g.frame.objects objects.sizes));
+    }
 
 -- the memory of the one process of a valid group
 pub fits_of : (g : Group) (p : Proc) → GroupIsValid g → All IsAlone g.frame.procs → g.frame.procs ≡ p ∷ [] → TableFits g.memory p.maps
 fits_of g p valid alone one =
-    fits_with g p valid (All-head (MappingsValid g.frame.objects) p [] (subst (All (MappingsValid g.frame.objects)) one valid.frame.mappings)) (All-head IsAlone p [] (subst (All IsAlone) one alone))
+    let frame = valid.sound.frame in
+    fits_with g p valid (head (λ (q : Proc). All IsUserMapping q.maps) frame.procs.placed) (head (λ (q : Proc). AreApart q.maps) frame.procs.apart) (head (λ (q : Proc). All (IsInside g.frame.objects) q.maps) frame.maps.inside) (head IsAlone alone)
+  where
+    head : (P : Proc → Type 0) → All P g.frame.procs → P p
+    head P all = All-head P p [] (subst (All P) one all)

@@ -1,6 +1,6 @@
 -- Parts of at most one process, as the engine's group.
-use Rattle.std.proofs.Common.{◌≡◌, ◌⊎◌, inl, inr, ℕ, zero, suc, ◌+◌, ◌-◌, ◌<◌, ◌≤◌, true, List, [], ◌∷◌, ◌++◌, length, map, take, get_or, refl, sym, ap, ◌∙◌, subst, arith, append_assoc, append-nil, length-append}
-use Rattle.std.specs.Prelude.{All}
+use Rattle.std.proofs.Common.{◌≡◌, ◌⊎◌, ℕ, zero, suc, ◌+◌, ◌-◌, ◌<◌, ◌≤◌, true, List, [], ◌∷◌, ◌++◌, length, map, take, get_or, refl, sym, ap, ◌∙◌, subst, arith, append_assoc, append-nil, length-append}
+use Rattle.std.specs.Prelude.{All, IsTrue}
 use Rattle.std.proofs.lemmas.Bool.{false≢true}
 use Rattle.std.proofs.lemmas.List.Elements.{All-head, All-nil}
 use Rattle.std.proofs.lemmas.List.{length-map, map-append, take_all}
@@ -18,14 +18,13 @@ use Rattle.descriptors.specs.declared.opens.Open.{Open}
 use Rattle.pipes_socks.specs.declared.streams.Pair.{Pair}
 use Rattle.pipes_socks.specs.declared.streams.Pipe.{Pipe}
 use Rattle.group_defs.specs.Built.{IsAlone, OnlyBuilt}
-use Rattle.group_defs.specs.Descriptions.{DescriptionsValid, IsOwned, OpenValid}
+use Rattle.group_defs.specs.Held.{is_held, is_kept}
 use Rattle.group_defs.specs.Group.{Group}
 use Rattle.address_maps.specs.Mappings.{AreApart}
 use Rattle.group_defs.specs.Mappings.{IsUserMapping}
-use Rattle.group_defs.specs.Objects.{IsMemoryObject, IsPrivateObject, IsSharedObject, ObjectsValid, is_of_file, mappers}
+use Rattle.group_defs.specs.Objects.{is_of_file}
 use Rattle.tables.specs.Rising.{Rise}
 use Rattle.group_defs.specs.Processes.{ProcValid, EndedValid, HasParent, StateValid}
-use Rattle.group_defs.specs.Sizes.{MemoryWithinLimits as FrameMemoryFits}
 use Rattle.group_defs.specs.Valid.{FrameValid, GroupIsValid}
 use Rattle.mem_objects.specs.Pages.{Pages}
 use Rattle.ckpt_records.specs.Parts.{memory_of, object_bytes, page_in}
@@ -99,8 +98,7 @@ memory_all objects layers k le same =
     ap (λ (os : List ObjectRec). memory_of os (take k layers)) (take_all k objects le) ∙ ap (memory_of objects) all
 
 pub small_objects : (g : Group) → GroupIsValid g → All (λ o. o.pages ≤ 16384) g.frame.objects
-unfolding FrameMemoryFits
-small_objects g valid = valid.frame.limits.memory.2
+small_objects g valid = valid.sound.frame.objects.sizes
 
 -- ---- the only process
 
@@ -144,7 +142,7 @@ one_frame : (f : Frame) (p : Proc) → FrameValid f → OnlyBuilt f → f.procs 
 unfolding IsAlone
 one_frame f p valid built one =
     let is_alone : IsAlone p = All-head IsAlone p [] (subst (All IsAlone) one built.alone) in
-    let is_valid : ProcValid (p ∷ []) p = All-head (ProcValid (p ∷ [])) p [] (subst (λ (ps : List Proc). All (ProcValid ps) ps) one valid.procs) in
+    let is_valid : ProcValid (p ∷ []) p = All-head (ProcValid (p ∷ [])) p [] (subst (λ (ps : List Proc). All (ProcValid ps) ps) one valid.sound.procs.states) in
     ap (λ (q : Proc). frame_with (q ∷ []) f.objects f.opens f.next f.out) (runs_alone p is_alone.0 (runs p is_valid)) ∙ sym (frame_is f (p ∷ []) built one)
 
 abbrev pub grouped : Frame → List (ℕ × List ℕ) → Group
@@ -164,30 +162,22 @@ none_left : {X : Type 0} (P : X → Type 0) (xs : List X) → ((x : X) → P x �
 none_left P [] never all = refl
 none_left P (x ∷ xs) never all = absurd (never x (All-head P x xs all))
 
-unmapped : (o : ObjectRec) → IsMemoryObject [] o → ⊥
-unfolding IsMemoryObject IsSharedObject IsPrivateObject mappers
-unmapped o (pages, inl shared) = omega (arith, shared.1)
-unmapped o (pages, inr private) = omega (arith, private.1)
+not_kept : (n : ℕ) → is_kept [] [] n ≡ true → ⊥
+unfolding is_kept is_of_file
+not_kept n kept = false≢true kept
 
-no_object : (o : ObjectRec) → (is_of_file [] o.number ≡ true) ⊎ IsMemoryObject [] o → ⊥
-unfolding is_of_file
-no_object o (inl of_file) = false≢true of_file
-no_object o (inr memory) = unmapped o memory
-
-not_owned : (n : ℕ) → IsOwned [] n → ⊥
-unfolding IsOwned
-not_owned n (k, p, lt, at, is) = omega (arith, lt)
+not_held : (n : ℕ) → is_held [] n ≡ true → ⊥
+unfolding is_held
+not_held n held = false≢true held
 
 no_objects : (f : Frame) → FrameValid f → OnlyBuilt f → f.procs ≡ [] → f.objects ≡ []
-unfolding ObjectsValid
 no_objects f valid built none =
-    none_left (λ o. (is_of_file f.files o.number ≡ true) ⊎ IsMemoryObject f.procs o) f.objects
-    (λ o is. no_object o (subst (λ (ps : List Proc). (is_of_file [] o.number ≡ true) ⊎ IsMemoryObject ps o) none (subst (λ (files : List FileRec). (is_of_file files o.number ≡ true) ⊎ IsMemoryObject f.procs o) built.files is)))
-    valid.objects
+    none_left (λ o. IsTrue (is_kept f.files f.procs o.number)) f.objects
+    (λ o is. not_kept o.number (subst (λ (ps : List Proc). is_kept [] ps o.number ≡ true) none (subst (λ (files : List FileRec). is_kept files f.procs o.number ≡ true) built.files is)))
+    valid.held.objects
 
 no_opens : (f : Frame) → FrameValid f → f.procs ≡ [] → f.opens ≡ []
-unfolding DescriptionsValid OpenValid
-no_opens f valid none = none_left (OpenValid f) f.opens (λ o is. not_owned o.number (subst (λ (ps : List Proc). IsOwned ps o.number) none is.0)) valid.descriptions.0
+no_opens f valid none = none_left (λ o. IsTrue (is_held f.procs o.number)) f.opens (λ o is. not_held o.number (subst (λ (ps : List Proc). is_held ps o.number ≡ true) none is)) valid.held.opens
 
 empty_fits : TableFits [] []
 unfolding AreApart Rise

@@ -89,10 +89,10 @@ keys_of_all memory (o ∷ objects) (e ∷ entries) found =
 module _ (g : Group) (valid : GroupIsValid g) where
   objects_rise : IsOrdered IsLower g.frame.objects
   unfolding Rise
-  objects_rise = ordered_of_pairs IsLower g.frame.objects valid.frame.order.objects
+  objects_rise = ordered_of_pairs IsLower g.frame.objects valid.sound.frame.objects.rise
 
   all_found : AllZip (IsFound g.memory) g.frame.objects g.memory
-  all_found = found_all g.frame.objects g.memory valid.memory objects_rise
+  all_found = found_all g.frame.objects g.memory valid.sound.memory.bytes objects_rise
 
   -- the pages placed are those that aren't all zero
   pub keys_are : map written_page (memory_pages g.memory) ≡ nonzero_pages g

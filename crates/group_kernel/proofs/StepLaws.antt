@@ -16,6 +16,7 @@ use Rattle.group_defs.specs.Cells.{cell_in, cells_of}
 use Rattle.address_maps.specs.Mappings.{has, mapping_at}
 use Rattle.group_defs.specs.Exit.{ended, with_left}
 use Rattle.group_defs.specs.Group.{Group, runner}
+use Rattle.group_defs.specs.Held.{is_held, is_kept}
 use Rattle.tables.specs.Lists.{on_first}
 use Rattle.group_defs.specs.Objects.{is_of_file}
 use Rattle.group_defs.specs.Step.{after_effect, continued, do_step, effect_in, is_local, is_local_at}
@@ -59,7 +60,7 @@ module _ (fixed : Fixed) (maps : List Mapping) (r : Regs) (memory : List (ℕ ×
 
   -- nothing is left but the next numbers and the output
   pub ends_all : (status : ℕ) → ended (running_group fixed maps r memory out) (running_process fixed maps r) status ≡ ended_group fixed.next out
-  unfolding ended is_of_file
+  unfolding ended is_of_file is_held is_kept
   ends_all status =
       ap (with_left (running_group fixed maps r memory out)) (none_by (fixed.pid == fixed.pid) _ (itself fixed.pid))
       ∙ ap (λ (l : List ObjectRec). left l (filter (λ o. false) fixed.opens) (filter (λ o. false) memory)) (none_kept fixed.objects)

@@ -33,8 +33,8 @@ output_is false fixed maps r memory out = refl
 -- the output of a valid group is valid
 pub output_valid : (running : Bool) (fixed : Fixed) (maps : List Mapping) (r : Regs) (memory : List (ℕ × List ℕ)) (out : Out)
     → IsRunnable (if running then running_group fixed maps r memory out else ended_group fixed.next out) → OutValid out
-output_valid true fixed maps r memory out runs = runs.valid.frame.out
-output_valid false fixed maps r memory out runs = runs.valid.frame.out
+output_valid true fixed maps r memory out runs = runs.valid.sound.frame.out.positions
+output_valid false fixed maps r memory out runs = runs.valid.sound.frame.out.positions
 
 -- ---- local steps
 

@@ -1,5 +1,5 @@
 -- A process of one page is valid, with descriptor 0 at nothing and 1 at the outside.
-use Rattle.std.proofs.Common.{◌≡◌, ◌⊎◌, inl, inr, ℕ, ◌+◌, ◌<◌, ◌≤◌, ◌^◌, true, false, List, [], ◌∷◌, length, refl, All, Any, arith}
+use Rattle.std.proofs.Common.{◌≡◌, ◌⊎◌, inl, inr, ℕ, ◌+◌, ◌<◌, ◌≤◌, ◌^◌, true, false, List, [], ◌∷◌, length, refl, All, IsTrue, arith}
 use Rattle.std.proofs.lemmas.List.Elements.{All-cons, All-replicate}
 use Rattle.std.proofs.lemmas.List.Kept.{AllPairs-cons}
 use Rattle.std.specs.Prelude.{replicate}
@@ -15,20 +15,20 @@ use Rattle.descriptors.specs.declared.opens.OpenKind.TheVariants.{Nothing, Outsi
 use Rattle.pipes_socks.specs.declared.streams.Pair.{Pair}
 use Rattle.pipes_socks.specs.declared.streams.Pipe.{Pipe}
 use Rattle.group_defs.specs.Built.{IsAlone, IsPlain, OnlyBuilt}
-use Rattle.group_defs.specs.Descriptions.{Owns, IsOwned, IsOpen, DescriptorsValid, OpenValid, DescriptionsValid}
+use Rattle.group_defs.specs.Descriptions.{IsOpen, DescriptorsValid, PositionValid}
 use Rattle.address_maps.specs.Mappings.{end_of, AreApart}
-use Rattle.group_defs.specs.Mappings.{IsUserMapping, IsInside, MappingsValid}
-use Rattle.group_defs.specs.Numbers.{RegsFit, NextFits, NumbersFit, NextIsAbove, NextValid}
+use Rattle.group_defs.specs.Held.{is_held, is_kept}
+use Rattle.group_defs.specs.Mappings.{IsUserMapping, IsInside}
+use Rattle.group_defs.specs.Numbers.{RegsFit, NextFits}
 use Rattle.lists.specs.Bytes.{AreBytes}
-use Rattle.group_defs.specs.Objects.{is_of_file, maps_object, mappers, memory_objects, IsMappedAs, IsPrivateObject, IsMemoryObject, ObjectsValid}
+use Rattle.group_defs.specs.Objects.{is_of_file, maps_object, mappers, IsMappedAs, IsPrivateObject, IsMemoryObject}
 use Rattle.tables.specs.Rising.{Rise}
 use Rattle.group_files.specs.Names.{IsBefore}
 use Rattle.group_files.specs.Files.{NamesRise}
-use Rattle.group_defs.specs.Order.{OwnListsRise, ListsRise}
+use Rattle.group_defs.specs.Order.{OwnListsRise}
 use Rattle.group_defs.specs.Processes.{BreakValid, RunningValid, ProcValid}
-use Rattle.group_defs.specs.Sizes.{ProcFits, MemoryWithinLimits, WithinLimits}
-use Rattle.group_defs.specs.Streams.{StreamsValid}
-use Rattle.group_defs.specs.Valid.{OutValid, FrameValid}
+use Rattle.group_defs.specs.Sizes.{ProcFits}
+use Rattle.group_defs.specs.Valid.{AllHeld, FrameIsSound, MapsSound, NamesSound, OpensSound, OutValid, ProcsSound, TargetIsThere, group_of_parts}
 use Rattle.group_kernel.specs.Engine.{frame_with, running_process, running_group, IsRunnable}
 use Rattle.group_kernel.specs.Memory.{TableFits}
 use Rattle.group_kernel.specs.declared.engine_group.Fixed.{Fixed}
@@ -77,100 +77,64 @@ rise_two : {X : Type 0} (number : X → ℕ) (x y : X) → number x < number y �
 unfolding Rise
 rise_two number x y below = AllPairs-cons (λ a b. number a < number b) x (y ∷ []) (all_one (λ b. number x < number b) y below) (rise_one number y)
 
-limits : WithinLimits f
-unfolding ProcFits MemoryWithinLimits memory_objects is_of_file
-limits = record {
-  proc_count = omega arith;
-  procs = all_one ProcFits p (omega arith, omega arith, all_two (λ (d : ℕ × ℕ). d.0 < 64) _ _ (omega arith) (omega arith));
-  memory = (omega arith, omega arith, all_one (λ (o : ObjectRec). o.pages ≤ 16384) _ (omega arith));
-  open_count = omega arith;
-  pipe_count = omega arith;
-  pipes = all_none _;
-  pair_count = omega arith;
-  pairs = all_none _;
-  file_count = omega arith;
-  files = all_none _;
-}
-
-order : ListsRise f
-unfolding OwnListsRise NamesRise
-order = record {
-  procs = rise_one (λ (x : Proc). x.pid) p;
+process : ProcsSound 2 (p ∷ [])
+unfolding ProcFits OwnListsRise RegsFit IsUserMapping AreApart ProcValid RunningValid BreakValid
+process = record {
+  count = omega arith;
+  rise = rise_one (λ (x : Proc). x.pid) p;
+  below = all_one (λ (x : Proc). x.pid < 2) p (omega arith);
+  fits = all_one ProcFits p (omega arith, omega arith, all_two (λ (d : ℕ × ℕ). d.0 < 64) _ _ (omega arith) (omega arith));
   own = all_one OwnListsRise p (rise_one (λ (m : Mapping). m.start) map_0, rise_two (λ (d : ℕ × ℕ). d.0) _ _ (omega arith));
-  objects = rise_one (λ (o : ObjectRec). o.number) object_0;
-  opens = rise_two (λ (o : Open). o.number) _ _ (omega arith);
-  pipes = rise_none (λ (x : Pipe). x.number);
-  pairs = rise_none (λ (x : Pair). x.number);
-  files = pairs_none (λ (a b : FileRec). IsBefore a.name b.name);
+  regs = all_one RegsFit p (omega arith, refl, All-replicate (λ x. x < 2 ^ 64) 31 0 (omega arith));
+  placed = all_one (λ (x : Proc). All IsUserMapping x.maps) p (all_one IsUserMapping map_0 (refl, omega arith, omega arith, omega arith, omega arith));
+  apart = all_one (λ (x : Proc). AreApart x.maps) p (AllPairs-cons (λ (m n : Mapping). end_of m ≤ n.start) map_0 [] (all_none _) (pairs_none (λ (m n : Mapping). end_of m ≤ n.start)));
+  states = all_one (ProcValid (p ∷ [])) p (refl, (refl, omega arith, omega arith), inl refl);
 }
 
-numbers : NumbersFit f
-unfolding RegsFit NextFits AreBytes
-numbers = record {
-  next = (omega arith, omega arith, omega arith, omega arith);
-  procs = all_one RegsFit p (omega arith, refl, All-replicate (λ x. x < 2 ^ 64) 31 0 (omega arith));
+mapped : MapsSound (p ∷ []) (object_0 ∷ []) []
+unfolding IsInside IsMemoryObject IsPrivateObject IsMappedAs mappers maps_object is_of_file
+mapped = record {
+  inside = all_one (λ (x : Proc). All (IsInside (object_0 ∷ [])) x.maps) p (all_one (IsInside (object_0 ∷ [])) map_0 (any_one (λ (o : ObjectRec). (o.number ≡ 0) × (0 + 1 ≤ o.pages)) object_0 (refl, omega arith)));
+  agree = all_one (λ (o : ObjectRec). (is_of_file [] o.number ≡ true) ⊎ IsMemoryObject (p ∷ []) o) object_0
+      (inr (omega arith, inr (all_one (IsMappedAs false 0) p (all_one (λ (m : Mapping). m.object ≡ 0 → m.shared ≡ false) map_0 (λ _. refl)), omega arith)));
+  unmapped = all_none _;
+}
+
+named : NamesSound (p ∷ []) (open_0 ∷ open_1 ∷ [])
+unfolding DescriptorsValid IsOpen
+named = record { fds = all_one (DescriptorsValid (open_0 ∷ open_1 ∷ [])) p (all_two (λ (d : ℕ × ℕ). IsOpen (open_0 ∷ open_1 ∷ []) d.1) _ _ (0, open_0, omega arith, refl, refl) (1, open_1, omega arith, refl, refl)) }
+
+opened : OpensSound 2 (open_0 ∷ open_1 ∷ []) [] [] []
+opened = record {
+  count = omega arith;
+  rise = rise_two (λ (o : Open). o.number) _ _ (omega arith);
+  below = all_two (λ (o : Open). o.number < 2) _ _ (omega arith) (omega arith);
+  positions = all_two (λ (o : Open). PositionValid o.kind o.offset o.flags) _ _ (refl, refl) (refl, refl);
+  targets = all_two (λ (o : Open). TargetIsThere [] [] [] o.kind) _ _ tt tt;
+}
+
+sound : FrameIsSound f
+unfolding NextFits AreBytes NamesRise OutValid is_of_file
+sound = record {
+  procs = process;
+  maps = mapped;
+  names = named;
+  opens = opened;
+  pipes = record { count = omega arith; rise = rise_none (λ (x : Pipe). x.number); below = all_none _; ends = all_none _; sizes = all_none _; bytes = all_none _ };
+  pairs = record { count = omega arith; rise = rise_none (λ (x : Pair). x.number); below = all_none _; ends = all_none _; sizes = all_none _; bytes = all_none _ };
+  objects = record { count = omega arith; pages = omega arith; sizes = all_one (λ (o : ObjectRec). o.pages ≤ 16384) _ (omega arith); rise = rise_one (λ (o : ObjectRec). o.number) object_0; below = all_one (λ (o : ObjectRec). o.number < 1) object_0 (omega arith) };
+  files = record { count = omega arith; fits = all_none _; rise = pairs_none (λ (a b : FileRec). IsBefore a.name b.name); there = all_none _; alone = all_none _ };
+  out = record { positions = (omega arith, omega arith, omega arith, omega arith, omega arith); bytes = all_none _ };
+  next = ((omega arith, omega arith, omega arith, omega arith), omega arith, omega arith);
+}
+
+held : AllHeld f
+unfolding is_held is_kept is_of_file maps_object
+held = record {
+  opens = all_two (λ (o : Open). IsTrue (is_held (p ∷ []) o.number)) open_0 open_1 refl refl;
+  objects = all_one (λ (o : ObjectRec). IsTrue (is_kept [] (p ∷ []) o.number)) object_0 refl;
   pipes = all_none _;
   pairs = all_none _;
-  out = all_none _;
-}
-
-next : NextValid f
-unfolding NextValid NextIsAbove
-next = (
-  (all_one (λ (x : Proc). x.pid < 2) p (omega arith), all_one (λ (o : ObjectRec). o.number < 1) object_0 (omega arith), all_two (λ (o : Open). o.number < 2) _ _ (omega arith) (omega arith), all_none _, all_none _),
-  omega arith,
-  omega arith,
-)
-
-mappings : MappingsValid (object_0 ∷ []) p
-unfolding MappingsValid IsUserMapping IsInside AreApart
-mappings = (
-  all_one (λ (m : Mapping). IsUserMapping m × IsInside (object_0 ∷ []) m) map_0
-      ((refl, omega arith, omega arith, omega arith, omega arith), any_one (λ (o : ObjectRec). (o.number ≡ 0) × (0 + 1 ≤ o.pages)) object_0 (refl, omega arith)),
-  AllPairs-cons (λ (m n : Mapping). end_of m ≤ n.start) map_0 [] (all_none _) (pairs_none (λ (m n : Mapping). end_of m ≤ n.start)),
-)
-
-objects : ObjectsValid f
-unfolding ObjectsValid IsMemoryObject IsPrivateObject IsMappedAs mappers maps_object is_of_file
-objects =
-    all_one (λ (o : ObjectRec). (is_of_file [] o.number ≡ true) ⊎ IsMemoryObject (p ∷ []) o) object_0
-    (inr (omega arith, inr (all_one (IsMappedAs false 0) p (all_one (λ (m : Mapping). m.object ≡ 0 → m.shared ≡ false) map_0 (λ _. refl)), refl)))
-
-owned : (number : ℕ) → Any (λ (d : ℕ × ℕ). d.1 ≡ number) p.fds → IsOwned (p ∷ []) number
-unfolding IsOwned Owns
-owned number at = any_one (Owns number) p at
-
-descriptions : DescriptionsValid f
-unfolding DescriptionsValid OpenValid DescriptorsValid IsOpen
-descriptions = (
-  all_two (OpenValid f) _ _
-      (owned 0 (0, (0, 0), omega arith, refl, refl), tt, (refl, refl))
-      (owned 1 (1, (1, 1), omega arith, refl, refl), tt, (refl, refl)),
-  all_one (DescriptorsValid (open_0 ∷ open_1 ∷ [])) p (all_two (λ (d : ℕ × ℕ). IsOpen (open_0 ∷ open_1 ∷ []) d.1) _ _ (0, open_0, omega arith, refl, refl) (1, open_1, omega arith, refl, refl)),
-)
-
-process : ProcValid (p ∷ []) p
-unfolding ProcValid RunningValid BreakValid
-process = (refl, (refl, omega arith, omega arith), inl refl)
-
-output : OutValid no_output
-unfolding OutValid
-output = (omega arith, omega arith, omega arith, omega arith, omega arith)
-
-frame : FrameValid f
-unfolding StreamsValid
-frame = record {
-  limits = limits;
-  order = order;
-  numbers = numbers;
-  next = next;
-  mappings = all_one (MappingsValid (object_0 ∷ [])) p mappings;
-  objects = objects;
-  files = all_none _;
-  descriptions = descriptions;
-  streams = (all_none _, all_none _);
-  procs = all_one (ProcValid (p ∷ [])) p process;
-  out = output;
 }
 
 built : OnlyBuilt f
@@ -186,7 +150,10 @@ built = record {
 
 -- whatever stands on its page
 pub sample_runnable : (page : List ℕ) → length page ≡ 4096 → AreBytes page → IsRunnable (running_group sample_fixed (map_0 ∷ []) sample_regs ((0, page) ∷ []) no_output)
-sample_runnable page size bytes = record { valid = record { frame = frame; memory = ((refl, size, bytes), tt); files = all_none _ }; built = built }
+sample_runnable page size bytes = record {
+  valid = group_of_parts (running_group sample_fixed (map_0 ∷ []) sample_regs ((0, page) ∷ []) no_output) (record { sound = sound; held = held }) (record { bytes = ((refl, size, bytes), tt); zeros = all_none _ });
+  built = built;
+}
 
 pub sample_fits : (page : List ℕ) → length page ≡ 4096 → AreBytes page → TableFits ((0, page) ∷ []) (map_0 ∷ [])
 sample_fits page size bytes = fits_of (running_group sample_fixed (map_0 ∷ []) sample_regs ((0, page) ∷ []) no_output) p (sample_runnable page size bytes).valid (sample_runnable page size bytes).built.alone refl

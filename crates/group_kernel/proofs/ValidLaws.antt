@@ -15,27 +15,25 @@ use Rattle.group_defs.specs.declared.frame.ObjectRec.{ObjectRec}
 use Rattle.address_maps.specs.declared.maps.Mapping.{Mapping}
 use Rattle.group_files.specs.declared.named_files.FileRec.{FileRec}
 use Rattle.descriptors.specs.declared.opens.Open.{Open}
-use Rattle.descriptors.specs.declared.opens.OpenKind.{OpenKind}
-use Rattle.descriptors.specs.declared.opens.OpenKind.TheVariants.{Nothing, Outside, File, PipeRead, PipeWrite, PairEnd}
 use Rattle.pipes_socks.specs.declared.streams.Pair.{Pair}
 use Rattle.pipes_socks.specs.declared.streams.Pipe.{Pipe}
-use Rattle.group_defs.specs.Built.{IsAlone, IsPlain, OnlyBuilt}
-use Rattle.address_maps.specs.Mappings.{mapping_at}
+use Rattle.group_defs.specs.Built.{IsAlone, OnlyBuilt}
+use Rattle.address_maps.specs.Mappings.{AreApart, mapping_at}
 use Rattle.group_defs.specs.Cells.{object_place, with_byte, with_byte_at, with_stored}
-use Rattle.group_defs.specs.Descriptions.{Owns, IsOwned, TargetIsThere, DescriptorsValid, OpenValid, DescriptionsValid}
+use Rattle.group_defs.specs.Descriptions.{DescriptorsValid}
 use Rattle.tables.specs.Lists.{on_first}
-use Rattle.group_defs.specs.Mappings.{MappingsValid}
-use Rattle.group_defs.specs.Numbers.{RegsFit, NextFits, NumbersFit, NextIsAbove, NextValid}
+use Rattle.group_defs.specs.Held.{is_held, is_kept}
+use Rattle.group_defs.specs.Mappings.{IsInside, IsUserMapping}
+use Rattle.group_defs.specs.Numbers.{RegsFit, NextFits}
 use Rattle.lists.specs.Bytes.{AreBytes}
-use Rattle.group_defs.specs.Objects.{is_of_file, maps_object, mappers, memory_objects, IsMappedAs, IsSharedObject, IsPrivateObject, IsMemoryObject, ObjectsValid}
+use Rattle.group_defs.specs.Objects.{is_of_file, maps_object, mappers, IsMappedAs, IsSharedObject, IsPrivateObject, IsMemoryObject}
 use Rattle.tables.specs.Rising.{Rise}
 use Rattle.group_files.specs.Names.{IsBefore}
 use Rattle.group_files.specs.Files.{NamesRise}
-use Rattle.group_defs.specs.Order.{OwnListsRise, ListsRise}
+use Rattle.group_defs.specs.Order.{OwnListsRise}
 use Rattle.group_defs.specs.Processes.{BreakValid, RunningValid, ProcValid}
-use Rattle.group_defs.specs.Sizes.{ProcFits, MemoryWithinLimits, WithinLimits}
-use Rattle.group_defs.specs.Streams.{StreamsValid}
-use Rattle.group_defs.specs.Valid.{IsObject, OutValid, FrameValid}
+use Rattle.group_defs.specs.Sizes.{ProcFits}
+use Rattle.group_defs.specs.Valid.{AllHeld, IsObject, FrameValid, MapsSound, NamesSound, OutValid, ProcsSound, valid_frame, group_of_parts}
 use Rattle.group_kernel.specs.Engine.{frame_with, running_process, running_group, ended_group, IsRunnable}
 use Rattle.group_kernel.specs.Registers.{AreRegisters}
 use Rattle.group_kernel.specs.declared.engine_group.Fixed.{Fixed}
@@ -113,50 +111,19 @@ module _ (fixed : Fixed) (maps : List Mapping) (r s : Regs) (out after : Out) wh
   abbrev h : Frame
   h = frame_with (q ∷ []) fixed.objects fixed.opens fixed.next after
 
-  limits_stay : WithinLimits f → WithinLimits h
-  unfolding ProcFits MemoryWithinLimits memory_objects
-  limits_stay w = record {
-    proc_count = omega arith;
-    procs = all_one ProcFits q (the_one ProcFits p w.procs);
-    memory = w.memory;
-    open_count = w.open_count;
-    pipe_count = omega arith;
-    pipes = all_none _;
-    pair_count = omega arith;
-    pairs = all_none _;
-    file_count = omega arith;
-    files = all_none _;
+  procs_stay : AreRegisters s → s.pc % 4 ≡ 0 → ProcsSound fixed.next.pid (p ∷ []) → ProcsSound fixed.next.pid (q ∷ [])
+  unfolding ProcFits OwnListsRise RegsFit ProcValid RunningValid BreakValid
+  procs_stay registers aligned v = record {
+    count = omega arith;
+    rise = rise_one (λ (x : Proc). x.pid) q;
+    below = all_one (λ (x : Proc). x.pid < fixed.next.pid) q (the_one (λ (x : Proc). x.pid < fixed.next.pid) p v.below);
+    fits = all_one ProcFits q (the_one ProcFits p v.fits);
+    own = all_one OwnListsRise q (the_one OwnListsRise p v.own);
+    regs = all_one RegsFit q (registers.pc, registers.count, registers.numbers);
+    placed = all_one (λ (x : Proc). All IsUserMapping x.maps) q (the_one (λ (x : Proc). All IsUserMapping x.maps) p v.placed);
+    apart = all_one (λ (x : Proc). AreApart x.maps) q (the_one (λ (x : Proc). AreApart x.maps) p v.apart);
+    states = all_one (ProcValid (q ∷ [])) q (aligned, (the_one (ProcValid (p ∷ [])) p v.states).1, inl refl);
   }
-
-  order_stays : ListsRise f → ListsRise h
-  unfolding OwnListsRise
-  order_stays o = record {
-    procs = rise_one (λ (x : Proc). x.pid) q;
-    own = all_one OwnListsRise q (the_one OwnListsRise p o.own);
-    objects = o.objects;
-    opens = o.opens;
-    pipes = rise_none (λ (x : Pipe). x.number);
-    pairs = rise_none (λ (x : Pair). x.number);
-    files = o.files;
-  }
-
-  numbers_stay : AreRegisters s → AreBytes after.bytes → NumbersFit f → NumbersFit h
-  unfolding RegsFit
-  numbers_stay registers bytes n = record {
-    next = n.next;
-    procs = all_one RegsFit q (registers.pc, registers.count, registers.numbers);
-    pipes = all_none _;
-    pairs = all_none _;
-    out = bytes;
-  }
-
-  next_stays : NextValid f → NextValid h
-  unfolding NextValid NextIsAbove
-  next_stays n = (
-    (all_one (λ (x : Proc). x.pid < fixed.next.pid) q (the_one (λ (x : Proc). x.pid < fixed.next.pid) p n.0.0), n.0.1, n.0.2, all_none _, all_none _),
-    n.1,
-    n.2,
-  )
 
   mapped_stays : (shared : Bool) (number : ℕ) → All (IsMappedAs shared number) (p ∷ []) → All (IsMappedAs shared number) (q ∷ [])
   unfolding IsMappedAs
@@ -165,59 +132,31 @@ module _ (fixed : Fixed) (maps : List Mapping) (r s : Regs) (out after : Out) wh
   object_stays : (o : ObjectRec) → (is_of_file [] o.number ≡ true) ⊎ IsMemoryObject (p ∷ []) o → (is_of_file [] o.number ≡ true) ⊎ IsMemoryObject (q ∷ []) o
   unfolding IsMemoryObject IsSharedObject IsPrivateObject mappers maps_object
   object_stays o (inl file) = inl file
-  object_stays o (inr (pages, inl (all, some))) = inr (pages, inl (mapped_stays true o.number all, some))
+  object_stays o (inr (pages, inl all)) = inr (pages, inl (mapped_stays true o.number all))
   object_stays o (inr (pages, inr (all, one))) = inr (pages, inr (mapped_stays false o.number all, one))
 
-  objects_stay : ObjectsValid f → ObjectsValid h
-  unfolding ObjectsValid
-  objects_stay all i d lt = object_stays _ (all i d lt)
-
-  owned_stays : (number : ℕ) → IsOwned (p ∷ []) number → IsOwned (q ∷ []) number
-  unfolding IsOwned Owns
-  owned_stays number owned = any_one (Owns number) q (the_any (Owns number) p owned)
-
-  target_stays : (kind : OpenKind) → IsPlain kind → TargetIsThere h kind
-  target_stays Nothing plain = tt
-  target_stays Outside plain = tt
-  target_stays (File object) plain = absurd plain
-  target_stays (PipeRead pipe) plain = absurd plain
-  target_stays (PipeWrite pipe) plain = absurd plain
-  target_stays (PairEnd pair end) plain = absurd plain
-
-  open_stays : (o : Open) → IsPlain o.kind → OpenValid f o → OpenValid h o
-  unfolding OpenValid
-  open_stays o plain (owned, there, position) = (owned_stays o.number owned, target_stays o.kind plain, position)
-
-  descriptions_stay : All (λ o. IsPlain o.kind) fixed.opens → DescriptionsValid f → DescriptionsValid h
-  unfolding DescriptionsValid DescriptorsValid
-  descriptions_stay plain d = (
-    λ i o lt. open_stays _ (plain i o lt) (d.0 i o lt),
-    all_one (DescriptorsValid fixed.opens) q (the_one (DescriptorsValid fixed.opens) p d.1),
-  )
-
-  process_stays : s.pc % 4 ≡ 0 → ProcValid (p ∷ []) p → ProcValid (q ∷ []) q
-  unfolding ProcValid RunningValid BreakValid
-  process_stays aligned v = (aligned, v.1, inl refl)
-
-  streams_stay : StreamsValid h
-  unfolding StreamsValid
-  streams_stay = (all_none _, all_none _)
-
-  frame_stays : AreRegisters s → s.pc % 4 ≡ 0 → OutValid after → AreBytes after.bytes → OnlyBuilt f → FrameValid f → FrameValid h
-  unfolding MappingsValid
-  frame_stays registers aligned output bytes built v = record {
-    limits = limits_stay v.limits;
-    order = order_stays v.order;
-    numbers = numbers_stay registers bytes v.numbers;
-    next = next_stays v.next;
-    mappings = all_one (MappingsValid fixed.objects) q (the_one (MappingsValid fixed.objects) p v.mappings);
-    objects = objects_stay v.objects;
-    files = all_none _;
-    descriptions = descriptions_stay built.opens v.descriptions;
-    streams = streams_stay;
-    procs = all_one (ProcValid (q ∷ [])) q (process_stays aligned (the_one (ProcValid (p ∷ [])) p v.procs));
-    out = output;
+  maps_stay : MapsSound (p ∷ []) fixed.objects [] → MapsSound (q ∷ []) fixed.objects []
+  maps_stay v = record {
+    inside = all_one (λ (x : Proc). All (IsInside fixed.objects) x.maps) q (the_one (λ (x : Proc). All (IsInside fixed.objects) x.maps) p v.inside);
+    agree = λ i d lt. object_stays _ (v.agree i d lt);
+    unmapped = all_none _;
   }
+
+  names_stay : NamesSound (p ∷ []) fixed.opens → NamesSound (q ∷ []) fixed.opens
+  unfolding DescriptorsValid
+  names_stay v = record { fds = all_one (DescriptorsValid fixed.opens) q (the_one (DescriptorsValid fixed.opens) p v.fds) }
+
+  held_stays : AllHeld f → AllHeld h
+  unfolding is_held is_kept maps_object
+  held_stays v = record { opens = v.opens; objects = v.objects; pipes = all_none _; pairs = all_none _ }
+
+  frame_stays : AreRegisters s → s.pc % 4 ≡ 0 → OutValid after → AreBytes after.bytes → FrameValid f → FrameValid h
+  frame_stays registers aligned output bytes v =
+      let w = v.sound in
+      record {
+        sound = record { procs = procs_stay registers aligned w.procs; maps = maps_stay w.maps; names = names_stay w.names; opens = w.opens; pipes = w.pipes; pairs = w.pairs; objects = w.objects; files = w.files; out = record { positions = output; bytes = bytes }; next = w.next };
+        held = held_stays v.held;
+      }
 
   built_stays : OnlyBuilt f → OnlyBuilt h
   unfolding IsAlone
@@ -234,11 +173,7 @@ module _ (fixed : Fixed) (maps : List Mapping) (r s : Regs) (out after : Out) wh
 pub running_stays : (fixed : Fixed) (maps : List Mapping) (r s : Regs) (memory stored : List (ℕ × List ℕ)) (out after : Out) → IsRunnable (running_group fixed maps r memory out)
     → AreRegisters s → s.pc % 4 ≡ 0 → AllZip IsObject fixed.objects stored → OutValid after → AreBytes after.bytes → IsRunnable (running_group fixed maps s stored after)
 running_stays fixed maps r s memory stored out after runs registers aligned objects output bytes = record {
-  valid = record {
-    frame = frame_stays fixed maps r s out after registers aligned output bytes runs.built runs.valid.frame;
-    memory = objects;
-    files = all_none _;
-  };
+  valid = group_of_parts (running_group fixed maps s stored after) (frame_stays fixed maps r s out after registers aligned output bytes (valid_frame (running_group fixed maps r memory out) runs.valid)) (record { bytes = objects; zeros = all_none _ });
   built = built_stays fixed maps r s out after runs.built;
 }
 
@@ -248,64 +183,29 @@ abbrev ended_frame : Next → Out → Frame
 ended_frame next out = frame_with [] [] [] next out
 
 module _ (next : Next) (out : Out) where
-  ended_limits : WithinLimits (ended_frame next out)
-  unfolding MemoryWithinLimits memory_objects
-  ended_limits = record {
-    proc_count = omega arith;
-    procs = all_none _;
-    memory = (omega arith, omega arith, all_none _);
-    open_count = omega arith;
-    pipe_count = omega arith;
-    pipes = all_none _;
-    pair_count = omega arith;
-    pairs = all_none _;
-    file_count = omega arith;
-    files = all_none _;
-  }
-
-  ended_order : ListsRise (ended_frame next out)
-  unfolding NamesRise
-  ended_order = record {
-    procs = rise_none (λ (x : Proc). x.pid);
-    own = all_none _;
-    objects = rise_none (λ (x : ObjectRec). x.number);
-    opens = rise_none (λ (x : Open). x.number);
-    pipes = rise_none (λ (x : Pipe). x.number);
-    pairs = rise_none (λ (x : Pair). x.number);
-    files = pairs_none (λ (a b : FileRec). IsBefore a.name b.name);
-  }
-
-  ended_lists : ObjectsValid (ended_frame next out) × DescriptionsValid (ended_frame next out) × StreamsValid (ended_frame next out)
-  unfolding ObjectsValid DescriptionsValid StreamsValid
-  ended_lists = (all_none _, (all_none _, all_none _), (all_none _, all_none _))
-
-  ended_next : (1 ≤ next.pid) → (next.pid ≤ 32768) → NextValid (ended_frame next out)
-  unfolding NextValid NextIsAbove
-  ended_next least most = ((all_none _, all_none _, all_none _, all_none _, all_none _), least, most)
-
   ended_holds : NextFits next → (1 ≤ next.pid) → (next.pid ≤ 32768) → OutValid out → AreBytes out.bytes → FrameValid (ended_frame next out)
+  unfolding NamesRise
   ended_holds fits least most output bytes = record {
-    limits = ended_limits;
-    order = ended_order;
-    numbers = record { next = fits; procs = all_none _; pipes = all_none _; pairs = all_none _; out = bytes };
-    next = ended_next least most;
-    mappings = all_none _;
-    objects = ended_lists.0;
-    files = all_none _;
-    descriptions = ended_lists.1;
-    streams = ended_lists.2;
-    procs = all_none _;
-    out = output;
+    sound = record {
+      procs = record { count = omega arith; rise = rise_none (λ (x : Proc). x.pid); below = all_none _; fits = all_none _; own = all_none _; regs = all_none _; placed = all_none _; apart = all_none _; states = all_none _ };
+      maps = record { inside = all_none _; agree = all_none _; unmapped = all_none _ };
+      names = record { fds = all_none _ };
+      opens = record { count = omega arith; rise = rise_none (λ (x : Open). x.number); below = all_none _; positions = all_none _; targets = all_none _ };
+      pipes = record { count = omega arith; rise = rise_none (λ (x : Pipe). x.number); below = all_none _; ends = all_none _; sizes = all_none _; bytes = all_none _ };
+      pairs = record { count = omega arith; rise = rise_none (λ (x : Pair). x.number); below = all_none _; ends = all_none _; sizes = all_none _; bytes = all_none _ };
+      objects = record { count = omega arith; pages = omega arith; sizes = all_none _; rise = rise_none (λ (x : ObjectRec). x.number); below = all_none _ };
+      files = record { count = omega arith; fits = all_none _; rise = pairs_none (λ (a b : FileRec). IsBefore a.name b.name); there = all_none _; alone = all_none _ };
+      out = record { positions = output; bytes = bytes };
+      next = (fits, least, most);
+    };
+    held = record { opens = all_none _; objects = all_none _; pipes = all_none _; pairs = all_none _ };
   }
 
 -- what is left of a valid group is valid
 pub ended_stays : (fixed : Fixed) (maps : List Mapping) (r : Regs) (memory : List (ℕ × List ℕ)) (out after : Out) → IsRunnable (running_group fixed maps r memory out) → OutValid after → AreBytes after.bytes → IsRunnable (ended_group fixed.next after)
-unfolding NextValid
 ended_stays fixed maps r memory out after runs output bytes = record {
-  valid = record {
-    frame = ended_holds fixed.next after runs.valid.frame.numbers.next runs.valid.frame.next.1 runs.valid.frame.next.2 output bytes;
-    memory = tt;
-    files = all_none _;
-  };
+  valid =
+      let next = runs.valid.sound.frame.next in
+      group_of_parts (ended_group fixed.next after) (ended_holds fixed.next after next.0 next.1 next.2 output bytes) (record { bytes = tt; zeros = all_none _ });
   built = record { one = omega arith; alone = all_none _; files = refl; pipes = refl; pairs = refl; opens = all_none _ };
 }

@@ -65,7 +65,8 @@ fn is_outside(fixed: &Fixed, register: u64) -> bool
 
 /// Whether a call writes to the outside.
 fn writes_outside(fixed: &Fixed, regs: &Regs) -> bool
-    ensures { result ≡ ((call_number regs.now == 64) && is_at_outside (open_at fixed.now.fds fixed.now.opens (low_word (a0 regs.now)))) }
+    ensures { result ≡ ((call_number regs.now == 64) && is_at_outside
+        (open_at fixed.now.fds fixed.now.opens (low_word (a0 regs.now)))) }
 {
     regs.get(17) == WRITE && is_outside(fixed, regs.get(10))
 }
@@ -90,7 +91,8 @@ pub fn is_waiting(g: &EngineGroup) -> bool
 /// Answers the call: x10 gets the value, and the process goes on.
 fn answer(g: &mut EngineGroup, value: u64)
     requires running { IsTrue g.old.running }
-    ensures goes { group_in g.new ≡ continued (group_in g.old) (process_in g.old) (answered g.old.regs value) }
+    ensures goes { group_in g.new ≡ continued (group_in g.old) (process_in g.old)
+        (answered g.old.regs value) }
     ensures fixed { g.new.fixed ≡ g.old.fixed }
 {
     g.regs.answer(value);
@@ -100,7 +102,8 @@ fn answer(g: &mut EngineGroup, value: u64)
 fn refuse(g: &mut EngineGroup, errno: u64)
     requires running { IsTrue g.old.running }
     requires errno { 1 ≤ errno }
-    ensures goes { group_in g.new ≡ continued (group_in g.old) (process_in g.old) (answered g.old.regs (2 ^ 64 - errno)) }
+    ensures goes { group_in g.new ≡ continued (group_in g.old) (process_in g.old)
+        (answered g.old.regs (2 ^ 64 - errno)) }
     ensures fixed { g.new.fixed ≡ g.old.fixed }
 {
     answer(g, errno.wrapping_neg());
@@ -117,7 +120,9 @@ fn end(g: &mut EngineGroup)
 /// Writes n bytes to the outside, which has room for them, where they can be read.
 fn put(g: &mut EngineGroup, n: u64) -> Result<(), NoMemory>
     requires running { IsTrue g.old.running }
-    ensures ok { OnOk result (group_in g.new ≡ after_reply (group_in g.old) (process_in g.old) (reply_map (with_out (group_in g.old))
+    ensures ok { OnOk result (group_in g.new
+        ≡ after_reply (group_in g.old) (process_in g.old)
+        (reply_map (with_out (group_in g.old))
         (put_outside g.old.out (readable (cells_in g.old) (a1 g.old.regs) n)))) }
     ensures fixed { OnOk result (g.new.fixed ≡ g.old.fixed) }
 {
@@ -134,7 +139,9 @@ fn put(g: &mut EngineGroup, n: u64) -> Result<(), NoMemory>
 fn write(g: &mut EngineGroup) -> Result<(), NoMemory>
     requires running { IsTrue g.old.running }
     requires runnable { IsRunnable (group_in g.old) }
-    ensures ok { OnOk result (group_in g.new ≡ after_reply (group_in g.old) (process_in g.old) (reply_map (with_out (group_in g.old))
+    ensures ok { OnOk result (group_in g.new
+        ≡ after_reply (group_in g.old) (process_in g.old)
+        (reply_map (with_out (group_in g.old))
         (write_outside g.old.out (cells_in g.old) (a1 g.old.regs) (a2 g.old.regs)))) }
     ensures fixed { OnOk result (g.new.fixed ≡ g.old.fixed) }
 {
@@ -154,7 +161,9 @@ fn write(g: &mut EngineGroup) -> Result<(), NoMemory>
 fn call(g: &mut EngineGroup) -> Result<(), NoMemory>
     requires running { IsTrue g.old.running }
     requires runnable { IsRunnable (group_in g.old) }
-    ensures ok { OnOk result (group_in g.new ≡ after_reply (group_in g.old) (process_in g.old) (reply_to (group_in g.old) (process_in g.old))) }
+    ensures ok { OnOk result (group_in g.new
+        ≡ after_reply (group_in g.old) (process_in g.old)
+        (reply_to (group_in g.old) (process_in g.old))) }
     ensures fixed { OnOk result (g.new.fixed ≡ g.old.fixed) }
 {
     match g.regs.get(17) {

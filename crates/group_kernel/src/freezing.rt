@@ -86,7 +86,8 @@ fn copy_of(alloc: Global, out: &Out) -> Result<Out, NoMemory>
 
 // The process that runs.
 fn process_of(alloc: Global, g: &EngineGroup) -> Result<Proc, NoMemory>
-    ensures { IfOk result (λ proc. proc ≡ running_process g.now.fixed g.now.memory.maps g.now.regs) }
+    ensures { IfOk result (λ proc. proc ≡ running_process g.now.fixed g.now.memory.maps
+        g.now.regs) }
 {
     let maps = list_of(alloc, g.memory.maps.as_slice())?;
     let fds = list_of(alloc, g.fixed.fds.as_slice())?;
@@ -111,7 +112,8 @@ fn frame_of_lists(
     opens: Seq<Open>,
     g: &EngineGroup,
 ) -> Result<Frame, NoMemory>
-    ensures { IfOk result (λ frame. frame ≡ frame_with procs objects opens g.now.fixed.next g.now.out) }
+    ensures { IfOk result (λ frame. frame
+        ≡ frame_with procs objects opens g.now.fixed.next g.now.out) }
 {
     Ok(Frame {
         procs,
@@ -183,7 +185,8 @@ fn add_object(
 
 /// The pages that aren't all zero, by object and then page, as copies.
 fn pages_in_objects(alloc: Global, objects: &[(u64, Vec<u8>)]) -> Result<Vec<Page>, NoMemory>
-    ensures { IfOk result (λ pages. pages.items ≡ memory_pages (map (λ o. (o.0, o.1.items)) objects.now)) }
+    ensures { IfOk result (λ pages. pages.items
+        ≡ memory_pages (map (λ o. (o.0, o.1.items)) objects.now)) }
 {
     let mut pages = Vec::new(alloc);
     for (object, bytes) in objects {

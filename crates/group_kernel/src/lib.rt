@@ -9,8 +9,8 @@ mod calls;
 mod engine_group;
 mod freezing;
 pub mod laws;
+mod loading;
 mod mapped_byte;
-mod parts;
 mod process_memory;
 #[cfg(test)]
 mod tests;
@@ -18,6 +18,6 @@ mod turns;
 
 pub use engine_group::{EngineGroup, Fixed};
 pub use freezing::{frame_of, mark_output, pages_of};
-pub use parts::engine_group as group_from;
+pub use loading::engine_group as group_from;
 pub use process_memory::ProcessMemory;
 pub use turns::{is_ready, turn};

@@ -36,7 +36,8 @@ pub struct ProcessMemory {
 fn starting_by(maps: &[Mapping], address: u64) -> usize
     requires { AreApart maps.now }
     ensures within { result ≤ length maps.now }
-    ensures point { IsPartitionPoint (λ m. m.start ≤ address) (λ m. address < m.start) maps.now result }
+    ensures point { IsPartitionPoint (λ m. m.start ≤ address)
+        (λ m. address < m.start) maps.now result }
 {
     maps.partition_point(|map| map.start <= address)
 }
@@ -46,7 +47,8 @@ fn place_of(objects: &[(u64, Vec<u8>)], number: u64) -> usize
     requires rise { Rise (λ o. o.0) (memory_in objects.now) }
     requires some { 0 < length (bytes_in (memory_in objects.now) number) }
     ensures within { result < length (memory_in objects.now) }
-    ensures number { (o : ℕ × List ℕ) → (slice_index_or (memory_in objects.now) result o).0 ≡ number }
+    ensures number { (o : ℕ × List ℕ) → (slice_index_or (memory_in objects.now) result o).0
+        ≡ number }
 {
     objects.partition_point(|object| object.0 < number)
 }
@@ -107,7 +109,8 @@ impl ProcessMemory {
 
     // Where the byte at an address lies; none where no mapping has the address.
     fn mapped_byte_at(&self, address: u64) -> Option<MappedByte>
-        ensures some { IfSome result (IsMappedByte (memory_in self.now.objects.items) self.now.maps address) }
+        ensures some { IfSome result (IsMappedByte (memory_in self.now.objects.items) self.now.maps
+            address) }
         ensures none { IfNone result (mapping_at self.now.maps address ≡ None) }
     {
         let maps = self.maps.as_slice();
@@ -134,10 +137,13 @@ impl ProcessMemory {
     fn part(&self, right: u8, address: u64, n: u64) -> Option<&[u8]>
         requires right { 0 < right }
         requires some { 1 ≤ n }
-        ensures some { IfSome result (λ bytes. bytes_with right (cells_of (memory_in self.now.objects.items) self.now.maps) address (length bytes.now) ≡ Some bytes.now) }
+        ensures some { IfSome result (λ bytes. bytes_with right
+            (cells_of (memory_in self.now.objects.items) self.now.maps) address (length bytes.now)
+            ≡ Some bytes.now) }
         ensures size { IfSome result (λ bytes. (1 ≤ length bytes.now) × (length bytes.now ≤ n)) }
         ensures end { IfSome result (λ bytes. address + length bytes.now ≤ 2 ^ 38) }
-        ensures none { IfNone result (byte_with right (cells_of (memory_in self.now.objects.items) self.now.maps) address ≡ None) }
+        ensures none { IfNone result (byte_with right
+            (cells_of (memory_in self.now.objects.items) self.now.maps) address ≡ None) }
     {
         let mapped = self.mapped_byte_at(address)?;
         if !mapped.allows(right) {
@@ -152,7 +158,9 @@ impl ProcessMemory {
         requires right { 0 < right }
         requires some { 1 ≤ n }
         requires size { n ≤ 8 }
-        ensures value { result ≡ option_map number_of (bytes_with right (cells_of (memory_in self.now.objects.items) self.now.maps) address n) }
+        ensures value { result ≡ option_map number_of
+            (bytes_with right (cells_of (memory_in self.now.objects.items) self.now.maps) address
+            n) }
         ensures range { IfSome result (λ v. v < 2 ^ (8 * n)) }
     {
         let bytes = self.part(right, address, u64::from(n))?;
@@ -167,7 +175,9 @@ impl ProcessMemory {
     fn number_across(&self, right: u8, address: u64, n: u8) -> Option<u64>
         requires right { 0 < right }
         requires size { n ≤ 8 }
-        ensures value { result ≡ option_map number_of (bytes_with right (cells_of (memory_in self.now.objects.items) self.now.maps) address n) }
+        ensures value { result ≡ option_map number_of
+            (bytes_with right (cells_of (memory_in self.now.objects.items) self.now.maps) address
+            n) }
         ensures range { IfSome result (λ v. v < 2 ^ (8 * n)) }
     {
         if n == 0 {
@@ -181,10 +191,13 @@ impl ProcessMemory {
     // Stores bytes at a mapped of a mapping that has all of them.
     fn land(&mut self, mapped: MappedByte, new: &[u8])
         requires within { mapped.object < length (memory_in self.old.objects.items) }
-        requires inside { (o : ℕ × List ℕ) → mapped.place + length new.now ≤ length (slice_index_or (memory_in self.old.objects.items) mapped.object o).1 }
+        requires inside { (o : ℕ × List ℕ) → mapped.place + length new.now
+            ≤ length (slice_index_or (memory_in self.old.objects.items) mapped.object o).1 }
         ensures maps { self.new.maps ≡ self.old.maps }
-        ensures stored { (address : ℕ) → IsMappedByte (memory_in self.old.objects.items) self.old.maps address mapped → length new.now ≤ mapped.room
-            → memory_in self.new.objects.items ≡ with_stored (memory_in self.old.objects.items) self.old.maps address new.now }
+        ensures stored { (address : ℕ) → IsMappedByte (memory_in self.old.objects.items)
+            self.old.maps address mapped → length new.now ≤ mapped.room
+            → memory_in self.new.objects.items ≡ with_stored (memory_in self.old.objects.items)
+            self.old.maps address new.now }
     {
         let object = &mut self.objects[mapped.object].1;
         object[mapped.place..mapped.place + new.len()].copy_from_slice(new);
@@ -194,7 +207,8 @@ impl ProcessMemory {
     fn land_one(&mut self, address: u64, byte: u8)
         ensures maps { self.new.maps ≡ self.old.maps }
         ensures stored { memory_in self.new.objects.items
-            ≡ with_byte_at (memory_in self.old.objects.items) (mapping_at self.old.maps address) address byte }
+            ≡ with_byte_at (memory_in self.old.objects.items) (mapping_at self.old.maps address)
+            address byte }
     {
         if let Some(mapped) = self.mapped_byte_at(address) {
             self.land(mapped, &[byte]);
@@ -204,7 +218,8 @@ impl ProcessMemory {
     // Stores bytes one after another.
     fn land_across(&mut self, address: u64, new: &[u8])
         ensures maps { self.new.maps ≡ self.old.maps }
-        ensures stored { memory_in self.new.objects.items ≡ with_stored (memory_in self.old.objects.items) self.old.maps address new.now }
+        ensures stored { memory_in self.new.objects.items
+            ≡ with_stored (memory_in self.old.objects.items) self.old.maps address new.now }
     {
         match new {
             [] => {}
@@ -217,7 +232,8 @@ impl ProcessMemory {
 
     // Whether each of n bytes can be read.
     fn can_read(&self, address: u64, n: u64) -> bool
-        ensures { result ≡ is_some (readable (cells_of (memory_in self.now.objects.items) self.now.maps) address n) }
+        ensures { result ≡ is_some (readable
+            (cells_of (memory_in self.now.objects.items) self.now.maps) address n) }
     {
         let mut at = address;
         let mut left = n;
@@ -236,8 +252,11 @@ impl ProcessMemory {
     /// Appends the n bytes from an address on, where each can be read; false, and nothing is appended, where one can't.
     /// Where memory runs out, some of them may have been appended.
     pub fn readable_into(&self, address: u64, n: u64, out: &mut Seq<u8>) -> Result<bool, NoMemory>
-        ensures able { IfOk result (λ able. able ≡ is_some (readable (cells_of (memory_in self.now.objects.items) self.now.maps) address n)) }
-        ensures bytes { IfOk result (λ able. MatchOption (readable (cells_of (memory_in self.now.objects.items) self.now.maps) address n)
+        ensures able { IfOk result (λ able. able
+            ≡ is_some (readable (cells_of (memory_in self.now.objects.items) self.now.maps) address
+            n)) }
+        ensures bytes { IfOk result (λ able. MatchOption
+            (readable (cells_of (memory_in self.now.objects.items) self.now.maps) address n)
             (out.new ≡ out.old) (λ bytes. out.new ≡ out.old ++ bytes)) }
         ensures kept { take (length out.old) out.new ≡ out.old }
     {

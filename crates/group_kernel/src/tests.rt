@@ -1,3 +1,3 @@
+mod loading;
 mod memory;
-mod parts;
 mod turns;

@@ -40,7 +40,8 @@ fn step_if_local(g: &mut EngineGroup) -> Result<bool, NoMemory>
     requires running { IsTrue g.old.running }
     requires runnable { IsRunnable (group_in g.old) }
     ensures local { IfOk result (λ stepped. is_local (group_in g.old) g.old.fixed.pid ≡ stepped) }
-    ensures group { IfOk result (λ stepped. group_in g.new ≡ (if stepped then do_step (group_in g.old) g.old.fixed.pid else group_in g.old)) }
+    ensures group { IfOk result (λ stepped. group_in g.new
+        ≡ (if stepped then do_step (group_in g.old) g.old.fixed.pid else group_in g.old)) }
     ensures running { OnOk result (IsTrue g.new.running) }
     ensures runnable { OnOk result (IsRunnable (group_in g.new)) }
     ensures out { OnOk result (g.new.out ≡ g.old.out) }
@@ -61,9 +62,11 @@ fn local_steps(g: &mut EngineGroup, quantum: u32) -> Result<u32, NoMemory>
     requires running { IsTrue g.old.running }
     requires runnable { IsRunnable (group_in g.old) }
     ensures within { IfOk result (λ n. n ≤ quantum) }
-    ensures group { IfOk result (λ n. group_in g.new ≡ steps_of (group_in g.old) g.old.fixed.pid n) }
+    ensures group { IfOk result (λ n. group_in g.new
+        ≡ steps_of (group_in g.old) g.old.fixed.pid n) }
     ensures all_local { IfOk result (λ n. AllLocal (group_in g.old) g.old.fixed.pid n) }
-    ensures stops { IfOk result (λ n. n < quantum → is_local (group_in g.new) g.old.fixed.pid ≡ false) }
+    ensures stops { IfOk result (λ n. n < quantum
+        → is_local (group_in g.new) g.old.fixed.pid ≡ false) }
     ensures running { OnOk result (IsTrue g.new.running) }
     ensures runnable { OnOk result (IsRunnable (group_in g.new)) }
     ensures out { OnOk result (g.new.out ≡ g.old.out) }
@@ -83,10 +86,12 @@ pub fn turn(g: &mut EngineGroup, quantum: u32) -> Result<u32, NoMemory>
     requires runnable { IsRunnable (group_in g.old) }
     requires room { last_position g.old.out + 1048576 < 2 ^ 63 }
     ensures turn { IfOk result (λ n. IsTurn quantum (group_in g.old) g.old.fixed.pid n) }
-    ensures group { IfOk result (λ n. group_in g.new ≡ turned quantum (group_in g.old) g.old.fixed.pid n) }
+    ensures group { IfOk result (λ n. group_in g.new
+        ≡ turned quantum (group_in g.old) g.old.fixed.pid n) }
     ensures runnable { OnOk result (IsRunnable (group_in g.new)) }
     ensures grown { OnOk result (last_position g.new.out ≤ last_position g.old.out + 1048576) }
-    ensures same_marks { OnOk result ((g.new.out.from ≡ g.old.out.from) × (g.new.out.mark ≡ g.old.out.mark)) }
+    ensures same_marks { OnOk result ((g.new.out.from ≡ g.old.out.from)
+        × (g.new.out.mark ≡ g.old.out.mark)) }
     ensures fixed { OnOk result (g.new.fixed ≡ g.old.fixed) }
 {
     let n = local_steps(g, quantum)?;

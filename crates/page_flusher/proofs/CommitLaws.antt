@@ -9,12 +9,11 @@ use Rattle.std.proofs.lemmas.List.{length-take-le, take_at, drop_at}
 use Rattle.lists.specs.Bytes.{SameOutside, IsOutside, put, put_same, put_within, length-put}
 use Rattle.group_defs.specs.Group.{Group}
 use Rattle.group_defs.specs.declared.frame.Frame.{Frame}
-use Rattle.ckpt_chain.specs.Chain.{◌>>=◌, block, link, payload, chain_at, whole_at, stream_at, Has, HasBlocks}
+use Rattle.ckpt_chain.specs.Chain.{◌>>=◌, block, link, payload, chain_at, whole_at, stream_at, Has, HasBlocks, SameBlocks}
 use Rattle.ckpt_chain.specs.Slot.{gate_place, open_body, newer, newest, other, body_bytes}
 use Rattle.ckpt_chain.specs.declared.slot.Slot.{Slot}
 use Rattle.ckpt_chain.specs.declared.slot.Slot.TheVariants.{A, B}
 use Rattle.ckpt_chain.specs.declared.slot.SlotBody.{SlotBody}
-use Rattle.ckpt_records.proofs.Held.{held_kept}
 use Rattle.ckpt_records.proofs.Members.{all_has, from_map, in_left, in_right}
 use Rattle.ckpt_records.specs.Holds.{HoldsAt, block_numbers, block_count}
 use Rattle.ckpt_records.specs.Spells.{IsPagePlace as IsPagePlaced}
@@ -153,33 +152,38 @@ page_behind f count pages all b has =
 
 -- ---- during a commit
 
-stays : (blocks : List Block) (r image : List ℕ) (epoch : ℕ) (g : Group) (pages : List PagePlace) (metas : List ℕ) (slot : Slot) → HoldsAt r epoch g pages metas slot → newest image ≡ newest r
+-- that a held checkpoint stays, as ckpt_records promises it
+abbrev pub KeptIsHeld : Type 0
+KeptIsHeld = (old new : List ℕ) (epoch : ℕ) (g : Group) (pages : List PagePlace) (metas : List ℕ) (slot : Slot) → HoldsAt old epoch g pages metas slot → length new ≡ length old → newest new ≡ newest old
+    → SameBlocks old new metas → SameBlocks old new (block_numbers pages) → HoldsAt new epoch g pages metas slot
+
+stays : KeptIsHeld → (blocks : List Block) (r image : List ℕ) (epoch : ℕ) (g : Group) (pages : List PagePlace) (metas : List ℕ) (slot : Slot) → HoldsAt r epoch g pages metas slot → newest image ≡ newest r
     → IsUnfinished (other slot) blocks r image → ((b : ℕ) → Has b (numbers blocks) → Has b (metas ++ block_numbers pages) → ⊥) → HoldsAt image epoch g pages metas slot
-stays blocks r image epoch g pages metas slot held same un free =
+stays held_kept blocks r image epoch g pages metas slot held same un free =
     held_kept r image epoch g pages metas slot held un.same.size same
     (λ b h. kept_block (other slot) blocks r image b un (stream_behind r (block_count r) held.body held.checkpoint.bytes metas held.checkpoint.stream b h) (λ w. free b w (in_left b metas (block_numbers pages) h)))
     (λ b h. kept_block (other slot) blocks r image b un (page_behind g.frame (block_count r) pages held.checkpoint.spelled.orderly.placed b h) (λ w. free b w (in_right b metas (block_numbers pages) h)))
 
-pub keeps_unfinished : (count : ℕ) (kept : NewestCheckpoint) (blocks : List Block) (r image : List ℕ) → length r ≡ 4096 * count → HasNewest r kept → Avoids count kept blocks → IsUnfinished (target_after kept) blocks r image → HasNewest image kept
-keeps_unfinished count nothing blocks r image size keeps avoids un =
+pub keeps_unfinished : KeptIsHeld → (count : ℕ) (kept : NewestCheckpoint) (blocks : List Block) (r image : List ℕ) → length r ≡ 4096 * count → HasNewest r kept → Avoids count kept blocks → IsUnfinished (target_after kept) blocks r image → HasNewest image kept
+keeps_unfinished law count nothing blocks r image size keeps avoids un =
     let none = none_found (open_body r (gate_place A)) (open_body r (gate_place B)) keeps in
     ap₂ newer (still_none (open_body r (gate_place A)) (open_body image (gate_place A)) un.slot none.0) (unfinished_other A blocks count avoids.placed r image un ∙ none.1) ∙ none_newest
-keeps_unfinished count (checkpoint epoch g pages metas A) blocks r image size keeps avoids un =
+keeps_unfinished law count (checkpoint epoch g pages metas A) blocks r image size keeps avoids un =
     let was = found (open_body r (gate_place A)) (open_body r (gate_place B)) (A, keeps.body) keeps.newest_is in
     let now = a_newest (open_body image (gate_place A)) (open_body image (gate_place B)) keeps.body
     (unfinished_other B blocks count avoids.placed r image un ∙ was.0, still (open_body r (gate_place B)) (open_body image (gate_place B)) (λ x. x.epoch ≤ keeps.body.epoch) un.slot was.1) in
-    stays blocks r image epoch g pages metas A keeps (now ∙ sym keeps.newest_is) un avoids.free
-keeps_unfinished count (checkpoint epoch g pages metas B) blocks r image size keeps avoids un =
+    stays law blocks r image epoch g pages metas A keeps (now ∙ sym keeps.newest_is) un avoids.free
+keeps_unfinished law count (checkpoint epoch g pages metas B) blocks r image size keeps avoids un =
     let was = found (open_body r (gate_place A)) (open_body r (gate_place B)) (B, keeps.body) keeps.newest_is in
     let now = b_newest (open_body image (gate_place A)) (open_body image (gate_place B)) keeps.body
     (unfinished_other A blocks count avoids.placed r image un ∙ was.0, still (open_body r (gate_place A)) (open_body image (gate_place A)) (λ x. x.epoch < keeps.body.epoch) un.slot was.1) in
-    stays blocks r image epoch g pages metas B keeps (now ∙ sym keeps.newest_is) un avoids.free
+    stays law blocks r image epoch g pages metas B keeps (now ∙ sym keeps.newest_is) un avoids.free
 
-pub keeps_or_holds : (count : ℕ) (kept : NewestCheckpoint) (h : Group) (pages : List PagePlace) (metas : List ℕ) (blocks : List Block) (body : SlotBody) (r image : List ℕ) → length r ≡ 4096 * count → HasNewest r kept → Avoids count kept blocks
+pub keeps_or_holds : KeptIsHeld → (count : ℕ) (kept : NewestCheckpoint) (h : Group) (pages : List PagePlace) (metas : List ℕ) (blocks : List Block) (body : SlotBody) (r image : List ℕ) → length r ≡ 4096 * count → HasNewest r kept → Avoids count kept blocks
     → HoldsAt (finished (target_after kept) blocks body r) (epoch_after kept) h pages metas (target_after kept)
     → IsUnfinished (target_after kept) blocks r image ⊎ (image ≡ finished (target_after kept) blocks body r) → HasNewestOrNext kept h image
-keeps_or_holds count kept h pages metas blocks body r image size keeps avoids held (inl un) = inl (keeps_unfinished count kept blocks r image size keeps avoids un)
-keeps_or_holds count kept h pages metas blocks body r image size keeps avoids held (inr done) =
+keeps_or_holds law count kept h pages metas blocks body r image size keeps avoids held (inl un) = inl (keeps_unfinished law count kept blocks r image size keeps avoids un)
+keeps_or_holds law count kept h pages metas blocks body r image size keeps avoids held (inr done) =
     inr (pages, metas, subst (λ (x : List ℕ). HoldsAt x (epoch_after kept) h pages metas (target_after kept)) (sym done) held)
 
 -- ---- the slot of a finished commit
@@ -294,8 +298,7 @@ module _ (target : Slot) (blocks : List Block) (count : ℕ) (placed : AllByRecu
 
 -- the target's gate opens, and the other one stays
 abbrev pub Opens : Slot → KeptBlocks → KeptBlocks → Type 0
-Opens A k k' = (k'.gate_a ≡ 1) × (k'.gate_b ≡ k.gate_b)
-Opens B k k' = (k'.gate_b ≡ 1) × (k'.gate_a ≡ k.gate_a)
+Opens target k k' = (gate_in k' target ≡ 1) × (gate_in k' (other target) ≡ gate_in k (other target))
 
 -- what is known of the gates before a commit gives what is known after it
 pub gates_after : (k k' : KeptBlocks) (blocks : List Block) → Opens k.target k k' → (count : ℕ) (body : SlotBody) (r : List ℕ)

@@ -10,9 +10,9 @@ use Rattle.block_alloc.specs.Free.{is_free, MayBeFree}
 use Rattle.ckpt_chain.specs.Chain.{first_of, laid, metas_for}
 use Rattle.ckpt_chain.specs.declared.slot.SlotBody.{SlotBody}
 use Rattle.group_defs.specs.declared.frame.Frame.{Frame}
-use Rattle.ckpt_records.specs.Codec.{number, counted}
+use Rattle.ckpt_records.specs.Codec.{number, with_count}
 use Rattle.ckpt_records.specs.Holds.{block_numbers, listed_page}
-use Rattle.ckpt_records.specs.Spelling.{page_place, proc, front, middle, record_bytes}
+use Rattle.ckpt_records.specs.Spelling.{page_place, proc, first_fields, middle, record_bytes}
 use Rattle.ckpt_records.specs.declared.meta.PagePlace.{PagePlace}
 use Rattle.commit_gate.specs.declared.whole.Block.{Block}
 use Rattle.page_flusher.specs.Plans.{IsLaidOut, in_block, placed}
@@ -68,7 +68,7 @@ number_size : (n : ℕ) → length (number n) ≡ 8
 unfolding number
 number_size n = refl
 
-places_size : (xs : List PagePlace) → length (counted page_place xs) ≡ 8 + 24 * length xs
+places_size : (xs : List PagePlace) → length (with_count page_place xs) ≡ 8 + 24 * length xs
 places_size xs = omega (arith, length-append (number (length xs)) (flat_map page_place xs), number_size (length xs), all_sizes xs)
 
 same_behind : (xs ys zs : List ℕ) → length ys ≡ length zs → length (xs ++ ys) ≡ length (xs ++ zs)
@@ -77,7 +77,7 @@ same_behind xs ys zs same = length-append xs ys ∙ ap (λ n. length xs + n) sam
 record_size : (f : Frame) (ps qs : List PagePlace) → length ps ≡ length qs → length (record_bytes f ps) ≡ length (record_bytes f qs)
 unfolding record_bytes
 record_size f ps qs same =
-    same_behind (front f) _ _ (same_behind (middle f) _ _ (same_behind (counted proc f.procs) _ _ (places_size ps ∙ ap (λ n. 8 + 24 * n) same ∙ sym (places_size qs))))
+    same_behind (first_fields f) _ _ (same_behind (middle f) _ _ (same_behind (with_count proc f.procs) _ _ (places_size ps ∙ ap (λ n. 8 + 24 * n) same ∙ sym (places_size qs))))
 
 -- a record's length is the same wherever its pages lie
 pub size_anywhere : (f : Frame) (pages : List Page) (blocks : List ℕ) → length blocks ≡ length pages → length (record_bytes f (placed pages blocks)) ≡ length (record_bytes f (map unplaced (map written_page pages)))

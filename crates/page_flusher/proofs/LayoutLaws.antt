@@ -9,16 +9,16 @@ use Rattle.std.proofs.lemmas.List.Elements.{All-from_recursion}
 use Rattle.block_alloc.specs.Free.{MayBeFree}
 use Rattle.group_defs.specs.Group.{Group}
 use Rattle.group_defs.specs.Pages.{page_bytes, nonzero_pages}
+use Rattle.group_defs.specs.Valid.{lists_of}
 use Rattle.group_defs.specs.declared.frame.Frame.{Frame}
 use Rattle.ckpt_chain.specs.Chain.{block, laid, meta_block, first_of, Has, HasBlocks, InDisk}
 use Rattle.ckpt_chain.specs.Slot.{newest}
 use Rattle.ckpt_chain.specs.declared.slot.Slot.{Slot}
 use Rattle.ckpt_chain.specs.declared.slot.SlotBody.{SlotBody}
-use Rattle.ckpt_records.specs.Holds.{block_numbers, block_count, listed_page, AreListed, IsCheckpointed, HoldsAt}
-use Rattle.ckpt_records.specs.Spelling.{record_bytes, front, magic}
+use Rattle.ckpt_records.specs.Holds.{block_numbers, block_count, listed_page, AreListed, IsCheckpointed, IsWritten, HoldsAt}
+use Rattle.ckpt_records.specs.Spelling.{record_bytes, first_fields, magic}
 use Rattle.ckpt_records.specs.Spells.{IsOrderly, IsPageOf, IsPagePlace as IsPagePlaced, Spells}
 use Rattle.ckpt_records.specs.declared.meta.PagePlace.{PagePlace}
-use Rattle.ckpt_records.proofs.Held.{written_held}
 use Rattle.commit_gate.specs.Whole.{IsDataBlock, numbers, finished}
 use Rattle.commit_gate.specs.declared.whole.Block.{Block}
 use Rattle.commit_gate.specs.FinishedLaws.{finished_same}
@@ -29,7 +29,7 @@ use Rattle.page_flusher.specs.Plans.{placed, IsLaidOut}
 use Rattle.ckpt_records.specs.Cost.{blocks_for, cost_of}
 use Rattle.ckpt_records.specs.declared.meta.Page.{Page}
 use Rattle.page_flusher.proofs.RecordLaws.{few_between, record_fits, pages_rise, pages_are_of}
-use Rattle.page_flusher.proofs.CommitLaws.{IsRising, committed, committed_newest, keeps_or_holds}
+use Rattle.page_flusher.proofs.CommitLaws.{IsRising, KeptIsHeld, committed, committed_newest, keeps_or_holds}
 use Rattle.ckpt_records.proofs.Members.{all_has, in_left, in_right}
 use Rattle.ckpt_records.proofs.Ordered.{IsOrdered, each_weaker, each_both, each_append, each_left, each_right, each_map, each_of_map, ordered_of_map, ordered_of_pairs}
 use Rattle.page_flusher.proofs.Laying.{blocks_placed, length_placed, size_anywhere, which_placed}
@@ -57,7 +57,7 @@ laid_whole bytes [] = tt
 laid_whole bytes (b ∷ blocks) = (block_whole (first_of blocks) (take 4088 bytes) (omega (arith, length-take 4088 bytes)), laid_whole (drop 4088 bytes) blocks)
 
 some_record : (f : Frame) (pages : List PagePlace) → 1 ≤ length (record_bytes f pages)
-unfolding record_bytes front magic
+unfolding record_bytes first_fields magic
 some_record f pages = omega arith
 
 -- ---- blocks that an image has
@@ -84,10 +84,14 @@ pages_read image memory (p ∷ pages) (b ∷ places) has are = (has.0 ∙ are.0,
 has_either : (xs ys : List ℕ) (b : ℕ) → Has b (xs ++ ys) → Has b xs ⊎ Has b ys
 has_either [] ys b has = inr has
 has_either (x ∷ xs) ys b (inl same) = inl (inl same)
-has_either (x ∷ xs) ys b (inr has) = elim (has_either xs ys b has) [ inl front ↦ inl (inr front) | inr back ↦ inr back ]
+has_either (x ∷ xs) ys b (inr has) = elim (has_either xs ys b has) [ inl before ↦ inl (inr before) | inr back ↦ inr back ]
 
 has_swap : (xs ys : List ℕ) (b : ℕ) → Has b (xs ++ ys) → Has b (ys ++ xs)
-has_swap xs ys b has = elim (has_either xs ys b has) [ inl front ↦ in_right b ys xs front | inr back ↦ in_left b ys xs back ]
+has_swap xs ys b has = elim (has_either xs ys b has) [ inl before ↦ in_right b ys xs before | inr back ↦ in_left b ys xs back ]
+
+-- that a written checkpoint is held, as ckpt_records promises it
+abbrev pub WrittenIsHeld : Type 0
+WrittenIsHeld = (image bytes : List ℕ) (epoch : ℕ) (g : Group) (pages : List PagePlace) (metas : List ℕ) (slot : Slot) → IsWritten image bytes epoch g pages metas slot → HoldsAt image epoch g pages metas slot
 
 -- ---- a layout
 
@@ -143,7 +147,7 @@ module _ (count : ℕ) (used : List ℕ) (epoch : ℕ) (f : Frame) (pages : List
     orderly : IsOrderly count g.frame (placed pages l.places)
     unfolding IsPagePlaced
     orderly = record {
-      lists = checkpointed.valid.frame.order;
+      lists = lists_of g.frame checkpointed.valid.sound.frame;
       rising = pages_rise g checkpointed.valid (placed pages l.places) which;
       placed = All-from_recursion (IsPagePlaced g.frame count) (placed pages l.places)
           (each_both (IsPageOf g.frame) (λ (p : PagePlace). (2 ≤ p.block) × (p.block < count)) (IsPagePlaced g.frame count) (placed pages l.places) (λ p page there. (page, there.0, there.1))
@@ -180,13 +184,13 @@ module _ (count : ℕ) (used : List ℕ) (epoch : ℕ) (f : Frame) (pages : List
       spells : Spells (record_bytes f (placed pages l.places)) count g.frame (placed pages l.places)
       spells = record {
         spelled = ap (λ (x : Frame). record_bytes x (placed pages l.places)) (sym same);
-        fits = record_fits g.frame checkpointed.valid.frame checkpointed.built count (placed pages l.places) checkpointed.all_marked most (omega (arith, few_blocks, length_placed pages l.places l.enough)) orderly.placed;
+        fits = record_fits g.frame checkpointed.valid.sound.frame checkpointed.built count (placed pages l.places) checkpointed.all_marked most (omega (arith, few_blocks, length_placed pages l.places l.enough)) orderly.placed;
         orderly = orderly;
       }
 
-      holds_after : HoldsAt (finished (target_after kept) blocks body r) epoch g (placed pages l.places) l.metas (target_after kept)
+      holds_after : WrittenIsHeld → HoldsAt (finished (target_after kept) blocks body r) epoch g (placed pages l.places) l.metas (target_after kept)
       unfolding InDisk
-      holds_after = written_held (finished (target_after kept) blocks body r) (record_bytes f (placed pages l.places)) epoch g (placed pages l.places) l.metas (target_after kept) (record {
+      holds_after written_held = written_held (finished (target_after kept) blocks body r) (record_bytes f (placed pages l.places)) epoch g (placed pages l.places) l.metas (target_after kept) (record {
         size = omega (arith, counted, most);
         newest_is = newest_is ∙ ap (λ (b : SlotBody). Some (target_after kept, b)) l.body_is;
         some_bytes = some_record f (placed pages l.places);
@@ -212,22 +216,22 @@ module _ (count : ℕ) (used : List ℕ) (epoch : ℕ) (f : Frame) (pages : List
       let own : blocks_for f (map written_page pages) ≡ cost_of g = ap (λ (x : Frame). blocks_for x (map written_page pages)) (sym same) ∙ ap (blocks_for g.frame) are.which in
       omega (arith, all, own, l.enough, l.metas_enough, size_anywhere f pages l.places l.enough, length-map pages written_page)
 
-  replaced : (g : Group) → g.frame ≡ f → IsCheckpointed g → ArePagesOf g pages → 16 ≤ count → count ≤ 2 ^ 20 → epoch < 2 ^ 64 → (kept : NewestCheckpoint) (target : Slot) (r : List ℕ)
+  replaced : WrittenIsHeld → KeptIsHeld → (g : Group) → g.frame ≡ f → IsCheckpointed g → ArePagesOf g pages → 16 ≤ count → count ≤ 2 ^ 20 → epoch < 2 ^ 64 → (kept : NewestCheckpoint) (target : Slot) (r : List ℕ)
       → IsBeforeCommit count used epoch target kept r → Replaces kept epoch g (placed pages l.places) l.metas target blocks body r
-  replaced g same checkpointed are least most epoch64 kept target r before =
-      let held = holds_after g same checkpointed are least most kept before.covers (sym before.next) epoch64 r before.size before.keeps in
+  replaced written_held held_kept g same checkpointed are least most epoch64 kept target r before =
+      let held = holds_after g same checkpointed are least most kept before.covers (sym before.next) epoch64 r before.size before.keeps written_held in
       subst (λ (t : Slot). Replaces kept epoch g (placed pages l.places) l.metas t blocks body r) before.into (record {
-        during = λ image either. keeps_or_holds count kept g (placed pages l.places) l.metas blocks body r image before.size before.keeps (laid_avoids kept before.covers)
+        during = λ image either. keeps_or_holds held_kept count kept g (placed pages l.places) l.metas blocks body r image before.size before.keeps (laid_avoids kept before.covers)
             (subst (λ (e : ℕ). HoldsAt (finished (target_after kept) blocks body r) e g (placed pages l.places) l.metas (target_after kept)) (sym before.next) held) either;
         after = held;
       })
 
-  pub laid_plan : 16 ≤ count → count ≤ 2 ^ 20 → (g : Group) → g.frame ≡ f → IsCheckpointed g → ArePagesOf g pages → epoch < 2 ^ 64 → IsPlan count used epoch g blocks body
-  laid_plan least most g same checkpointed are epoch64 = record {
+  pub laid_plan : WrittenIsHeld → KeptIsHeld → 16 ≤ count → count ≤ 2 ^ 20 → (g : Group) → g.frame ≡ f → IsCheckpointed g → ArePagesOf g pages → epoch < 2 ^ 64 → IsPlan count used epoch g blocks body
+  laid_plan written_held held_kept least most g same checkpointed are epoch64 = record {
     pages = placed pages l.places;
     metas = l.metas;
     uses = uses;
     size = as_many g same are;
     placed = all_placed;
-    replaces = λ kept target r before. replaced g same checkpointed are least most epoch64 kept target r before;
+    replaces = λ kept target r before. replaced written_held held_kept g same checkpointed are least most epoch64 kept target r before;
   }

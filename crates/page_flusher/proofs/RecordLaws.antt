@@ -3,16 +3,15 @@ use Rattle.std.proofs.Common.{◌≡◌, ℕ, ◌+◌, ◌-◌, ◌^◌, ◌<◌
 use Rattle.std.specs.List.{AllByRecursion, slice_index_or, flat_map, range_with_len}
 use Rattle.std.proofs.lemmas.List.Elements.{recursion_from_All}
 use Rattle.group_defs.specs.Built.{IsAlone, IsPlain, OnlyBuilt}
-use Rattle.group_defs.specs.Descriptions.{DescriptionsValid, DescriptorsValid, OpenValid, PositionValid, IsOpen}
-use Rattle.group_defs.specs.Mappings.{MappingsValid, IsUserMapping as IsMapped, IsInside}
+use Rattle.group_defs.specs.Descriptions.{DescriptorsValid, PositionValid, IsOpen}
+use Rattle.group_defs.specs.Mappings.{IsUserMapping as IsMapped, IsInside}
 use Rattle.group_defs.specs.Numbers as numbers
-use Rattle.group_defs.specs.Numbers.{NextValid, NextIsAbove}
 use Rattle.tables.specs.Rising.{Rise}
 use Rattle.group_defs.specs.Order.{OwnListsRise}
 use Rattle.group_defs.specs.Output.{last_position}
 use Rattle.group_defs.specs.Processes.{ProcValid, StateValid, RunningValid, BreakValid, EndedValid, IsWaitStatus, IsCleared}
 use Rattle.group_defs.specs.Sizes as sizes
-use Rattle.group_defs.specs.Valid.{FrameValid, OutValid, GroupIsValid}
+use Rattle.group_defs.specs.Valid.{FrameIsSound, GroupIsValid, OutValid}
 use Rattle.group_defs.specs.declared.frame.Frame.{Frame}
 use Rattle.group_defs.specs.declared.frame.ObjectRec.{ObjectRec}
 use Rattle.group_defs.specs.declared.frame.Proc.{Proc}
@@ -72,31 +71,24 @@ state_fits procs p (states.Ended status) valid = (grind (arith, valid.1), (omega
 
 -- ---- the frame
 
-module _ (f : Frame) (valid : FrameValid f) (built : OnlyBuilt f) where
+module _ (f : Frame) (valid : FrameIsSound f) (built : OnlyBuilt f) where
   next_fits : fits.NextInRange f.next
-  unfolding NextValid numbers.NextFits
-  next_fits = let n = valid.numbers.next in (omega (arith, valid.next.2), (n.0, (n.1, (n.2, n.3))))
-
-  above : NextIsAbove f
-  unfolding NextValid
-  above = valid.next.0
+  unfolding numbers.NextFits
+  next_fits = let n = valid.next.0 in (omega (arith, valid.next.2), (n.0, (n.1, (n.2, n.3))))
 
   object_fits : All fits.ObjectInRange f.objects
-  unfolding NextIsAbove sizes.MemoryWithinLimits
-  object_fits k d lt = (omega (arith, above.1 k d lt, next_fits.1.0), omega (arith, valid.limits.memory.2 k d lt))
+  object_fits k d lt = (omega (arith, valid.objects.below k d lt, next_fits.1.0), omega (arith, valid.objects.sizes k d lt))
 
   objects_fit : fits.ListFits fits.ObjectInRange f.objects
-  unfolding NextIsAbove
-  objects_fit = (omega (arith, few_below (λ (o : ObjectRec). o.number) f.next.object f.objects valid.order.objects above.1, next_fits.1.0), recursion_from_All fits.ObjectInRange f.objects object_fits)
+  objects_fit = (omega (arith, few_below (λ (o : ObjectRec). o.number) f.next.object f.objects valid.objects.rise valid.objects.below, next_fits.1.0), recursion_from_All fits.ObjectInRange f.objects object_fits)
 
   opens_fit : fits.ListFits fits.OpenFits f.opens
-  unfolding NextIsAbove DescriptionsValid OpenValid
-  opens_fit = (omega (arith, valid.limits.open_count), recursion_from_All fits.OpenFits f.opens each)
+  opens_fit = (omega (arith, valid.opens.count), recursion_from_All fits.OpenFits f.opens each)
     where
       each : All fits.OpenFits f.opens
       each k d lt =
           let o = slice_index_or f.opens k d in
-          (omega (arith, above.2 k d lt, next_fits.1.1.0), kind_fits o.kind o.offset o.flags (built.opens k d lt) (valid.descriptions.0 k d lt).2)
+          (omega (arith, valid.opens.below k d lt, next_fits.1.1.0), kind_fits o.kind o.offset o.flags (built.opens k d lt) (valid.opens.positions k d lt))
 
   mapping_fits : (m : Mapping) → IsMapped m → IsInside f.objects m → fits.MappingInRange m
   unfolding IsMapped IsInside
@@ -104,14 +96,14 @@ module _ (f : Frame) (valid : FrameValid f) (built : OnlyBuilt f) where
       let (o, (is, fit)) = one_of (λ (o : ObjectRec). (o.number ≡ m.object) × (m.first + m.pages ≤ o.pages)) fits.ObjectInRange f.objects inside object_fits in
       (omega (arith, there.3), (omega (arith, there.3), (omega (arith, there.4), (tt, (omega (arith, is.0, fit.0), omega (arith, is.1, fit.1))))))
 
-  maps_fit : (p : Proc) → sizes.ProcFits p → MappingsValid f.objects p → fits.ListFits fits.MappingInRange p.maps
-  unfolding sizes.ProcFits MappingsValid
-  maps_fit p limits maps = (omega (arith, limits.1), recursion_from_All fits.MappingInRange p.maps (λ k d lt. mapping_fits (slice_index_or p.maps k d) (maps.0 k d lt).0 (maps.0 k d lt).1))
+  maps_fit : (p : Proc) → sizes.ProcFits p → All IsMapped p.maps → All (IsInside f.objects) p.maps → fits.ListFits fits.MappingInRange p.maps
+  unfolding sizes.ProcFits
+  maps_fit p limits placed inside = (omega (arith, limits.1), recursion_from_All fits.MappingInRange p.maps (λ k d lt. mapping_fits (slice_index_or p.maps k d) (placed k d lt) (inside k d lt)))
 
   descriptor_fits : (d : ℕ × ℕ) → d.0 < 64 → IsOpen f.opens d.1 → fits.DescriptorInRange d
-  unfolding IsOpen NextIsAbove
+  unfolding IsOpen
   descriptor_fits d few there =
-      let (o, (is, below)) = one_of (λ (o : Open). o.number ≡ d.1) (λ (o : Open). o.number < f.next.descr) f.opens there above.2 in
+      let (o, (is, below)) = one_of (λ (o : Open). o.number ≡ d.1) (λ (o : Open). o.number < f.next.descr) f.opens there valid.opens.below in
       (omega (arith, few), omega (arith, is, below, next_fits.1.1.0))
 
   descriptors_fit : (p : Proc) → sizes.ProcFits p → DescriptorsValid f.opens p → OwnListsRise p → fits.ListFits fits.DescriptorInRange p.fds
@@ -121,19 +113,18 @@ module _ (f : Frame) (valid : FrameValid f) (built : OnlyBuilt f) where
     recursion_from_All fits.DescriptorInRange p.fds (λ k d lt. descriptor_fits (slice_index_or p.fds k d) (limits.2 k d lt) (there k d lt)),
   )
 
-  proc_fits : (p : Proc) → p.pid < f.next.pid → IsAlone p → ProcValid f.procs p → numbers.RegsFit p → sizes.ProcFits p → MappingsValid f.objects p → DescriptorsValid f.opens p → OwnListsRise p → fits.ProcInRange p
+  proc_fits : (p : Proc) → p.pid < f.next.pid → IsAlone p → ProcValid f.procs p → numbers.RegsFit p → sizes.ProcFits p → All IsMapped p.maps → All (IsInside f.objects) p.maps → DescriptorsValid f.opens p → OwnListsRise p → fits.ProcInRange p
   unfolding IsAlone ProcValid numbers.RegsFit
-  proc_fits p low alone own regs limits maps there rise =
+  proc_fits p low alone own regs limits placed inside there rise =
       let (state, (base, brk)) = state_fits f.procs p p.state own in
-      (omega (arith, low, next_fits.0), (omega (arith, alone.0), (state, (regs.0, ((regs.1, recursion_from_All fits.Is64 p.regs regs.2), (base, (brk, (maps_fit p limits maps, descriptors_fit p limits there rise))))))))
+      (omega (arith, low, next_fits.0), (omega (arith, alone.0), (state, (regs.0, ((regs.1, recursion_from_All fits.Is64 p.regs regs.2), (base, (brk, (maps_fit p limits placed inside, descriptors_fit p limits there rise))))))))
 
   procs_fit : fits.ListFits fits.ProcInRange f.procs
-  unfolding NextIsAbove DescriptionsValid
-  procs_fit = (omega (arith, valid.limits.proc_count), recursion_from_All fits.ProcInRange f.procs each)
+  procs_fit = (omega (arith, valid.procs.count), recursion_from_All fits.ProcInRange f.procs each)
     where
       each : All fits.ProcInRange f.procs
       each k d lt =
-          proc_fits (slice_index_or f.procs k d) (above.0 k d lt) (built.alone k d lt) (valid.procs k d lt) (valid.numbers.procs k d lt) (valid.limits.procs k d lt) (valid.mappings k d lt) (valid.descriptions.1 k d lt) (valid.order.own k d lt)
+          proc_fits (slice_index_or f.procs k d) (valid.procs.below k d lt) (built.alone k d lt) (valid.procs.states k d lt) (valid.procs.regs k d lt) (valid.procs.fits k d lt) (valid.procs.placed k d lt) (valid.maps.inside k d lt) (valid.names.fds k d lt) (valid.procs.own k d lt)
 
   page_fits : (count : ℕ) (p : PagePlace) → count ≤ 2 ^ 20 → IsPagePlaced f count p → fits.PageFits p
   unfolding IsPagePlaced IsPageOf
@@ -148,7 +139,7 @@ module _ (f : Frame) (valid : FrameValid f) (built : OnlyBuilt f) where
       let no_pipe : fits.ListFits fits.PipeInRange f.pipes = subst (fits.ListFits fits.PipeInRange) (sym built.pipes) (omega arith, tt) in
       let no_pair : fits.ListFits fits.PairInRange f.pairs = subst (fits.ListFits fits.PairInRange) (sym built.pairs) (omega arith, tt) in
       let places : fits.ListFits fits.PageFits pages = (omega (arith, few, most), recursion_from_All fits.PageFits pages (λ k d lt. page_fits count (slice_index_or pages k d) most (there k d lt))) in
-      (next_fits, (record { mark = marked; end = valid.out.2 }, (objects_fit, (no_file, (no_pipe, (no_pair, (opens_fit, (procs_fit, places))))))))
+      (next_fits, (record { mark = marked; end = valid.out.positions.2 }, (objects_fit, (no_file, (no_pipe, (no_pair, (opens_fit, (procs_fit, places))))))))
 
 abbrev IsLower : ObjectRec → ObjectRec → Type 0
 IsLower a b = a.number < b.number
@@ -194,7 +185,7 @@ all_are_pages (o ∷ objects) =
 module _ (g : Group) (valid : GroupIsValid g) (pages : List PagePlace) (which : map listed_page pages ≡ nonzero_pages g) where
   objects_rise : IsOrdered IsLower g.frame.objects
   unfolding Rise
-  objects_rise = ordered_of_pairs IsLower g.frame.objects valid.frame.order.objects
+  objects_rise = ordered_of_pairs IsLower g.frame.objects valid.sound.frame.objects.rise
 
   pub pages_rise : PagesRise pages
   unfolding PagesRise IsPageBefore nonzero_pages all_pages

@@ -29,12 +29,14 @@ pub record Describes (k : KeptBlocks) (kept : NewestCheckpoint) : Type 0 where
 abbrev pub DescribesGates : KeptBlocks → List ℕ → Type 0
 DescribesGates k image = (slot : Slot) → slice_index image (gate_place slot) ≡ gate_in k slot
 
--- after the next commit, which writes these blocks: the other slot comes next, and what was known of the gates before it is known
--- of them after it
+-- After the next commit, which writes these blocks: the other slot comes next; the commit's gate is open, and the other one is as
+-- before. Where the gates of a disk were known before the commit, those that it leaves are known.
 pub record IsKeptAfter (k : KeptBlocks) (blocks : List Block) (k' : KeptBlocks) : Type 0 where
   pub epoch : k'.epoch ≡ k.epoch + 1
   pub used : k'.used.items ≡ numbers blocks
   pub target : k'.target ≡ other k.target
+  pub opened : gate_in k' k.target ≡ 1
+  pub stays : gate_in k' (other k.target) ≡ gate_in k (other k.target)
   pub gates : (count : ℕ) (body : SlotBody) (r : List ℕ) → 16 ≤ count → length r ≡ 4096 * count → AllByRecursion (IsDataBlock count) blocks → DescribesGates k r → DescribesGates k' (finished k.target blocks body r)
 
 -- at a run's start: the epoch, the blocks and the gates of its origin, and the slot that its placement doesn't have

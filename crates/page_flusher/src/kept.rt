@@ -43,7 +43,8 @@ impl KeptBlocks {
         gates: [u8; 2],
     ) -> Result<KeptBlocks, NoMemory>
         ensures epoch { IfOk result (λ k. k.epoch ≡ epoch) }
-        ensures used { IfOk result (λ k. k.used.items ≡ placement.now.metas ++ block_numbers placement.now.pages) }
+        ensures used { IfOk result (λ k. k.used.items
+            ≡ placement.now.metas ++ block_numbers placement.now.pages) }
         ensures target { IfOk result (λ k. k.target ≡ other placement.now.slot) }
         ensures gates { IfOk result (λ k. gates ≡ k.gate_a ∷ k.gate_b ∷ []) }
     {

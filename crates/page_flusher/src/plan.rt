@@ -16,7 +16,7 @@ ghost use Rattle.std.specs.List.{AllByRecursion};
 
 use block_alloc::{Blocks, rebuild};
 use ckpt_chain::{PageBytes, SlotBody, lay_stream};
-use ckpt_records::{Page, PagePlace, write_meta};
+use ckpt_records::{Page, PagePlace, kept_is_held, write_meta, written_is_held};
 use commit_gate::Block;
 use group_defs::Frame;
 use lists::{NoMemory, Seq};
@@ -46,7 +46,8 @@ fn take_blocks(
     blocks: &mut Blocks,
     count: usize,
 ) -> Result<Option<Vec<u64>>, NoMemory>
-    ensures taken { IfOk result (λ taken. IfSome taken (λ list. AreTaken blocks.old count list.items blocks.new)) }
+    ensures taken { IfOk result (λ taken. IfSome taken
+        (λ list. AreTaken blocks.old count list.items blocks.new)) }
     ensures none { IfOk result (λ taken. IfNone taken (free_count blocks.old < count)) }
 {
     let mut taken = Vec::new(alloc);
@@ -84,7 +85,8 @@ fn record_of(
 ) -> Result<Vec<u8>, NoMemory>
     requires form { IsInForm frame.now }
     requires enough { length blocks.now ≡ length pages.now }
-    ensures { IfOk result (λ bytes. bytes.items ≡ record_bytes frame.now (placed pages.now blocks.now)) }
+    ensures { IfOk result (λ bytes. bytes.items
+        ≡ record_bytes frame.now (placed pages.now blocks.now)) }
 {
     let places = places_of(alloc, pages, blocks)?;
     write_meta(alloc, frame, &places)
@@ -93,7 +95,8 @@ fn record_of(
 // The pages in these blocks. Their bytes aren't copied.
 fn page_blocks(alloc: Global, numbers: &[u64], pages: Vec<Page>) -> Result<Vec<Block>, NoMemory>
     requires { length numbers.now ≡ length pages.items }
-    ensures { IfOk result (λ blocks. Carry numbers.now (map (λ p. p.bytes) pages.items) blocks.items) }
+    ensures { IfOk result (λ blocks. Carry numbers.now (map (λ p. p.bytes) pages.items)
+        blocks.items) }
 {
     let mut blocks = Vec::new(alloc);
     for page in pages {
@@ -145,8 +148,10 @@ fn lay_out(
     pages: &[Page],
 ) -> Result<Option<Layout>, NoMemory>
     requires { IsInForm frame.now }
-    ensures laid { IfOk result (λ layout. IfSome layout (λ layout. IsLaidIn free.old frame.now pages.now layout free.new)) }
-    ensures none { IfOk result (λ layout. IfNone layout (free_count free.old < blocks_for frame.now (map written_page pages.now))) }
+    ensures laid { IfOk result (λ layout. IfSome layout
+        (λ layout. IsLaidIn free.old frame.now pages.now layout free.new)) }
+    ensures none { IfOk result (λ layout. IfNone layout
+        (free_count free.old < blocks_for frame.now (map written_page pages.now))) }
 {
     let places = match take_blocks(alloc, free, pages.len())? {
         Some(places) => places,
@@ -167,7 +172,9 @@ fn lay_out(
 // The pages in their blocks, and behind them the record's bytes in its meta blocks.
 fn all_blocks(alloc: Global, layout: &Layout, pages: Vec<Page>) -> Result<Vec<Block>, NoMemory>
     requires { length layout.now.places.items ≡ length pages.items }
-    ensures { IfOk result (λ blocks. Carry (layout.now.places.items ++ layout.now.metas.items) (map (λ p. p.bytes) pages.items ++ laid layout.now.bytes.items layout.now.metas.items) blocks.items) }
+    ensures { IfOk result (λ blocks. Carry (layout.now.places.items ++ layout.now.metas.items)
+        (map (λ p. p.bytes) pages.items ++ laid layout.now.bytes.items layout.now.metas.items)
+        blocks.items) }
 {
     let mut blocks = page_blocks(alloc, &layout.places, pages)?;
     let stream = lay_stream(alloc, &layout.bytes, &layout.metas)?;
@@ -207,7 +214,9 @@ fn blocks_needed(alloc: Global, frame: &Frame, pages: &[Page]) -> Result<u64, No
 // Why there is no plan where so many blocks are free.
 fn full(alloc: Global, frame: &Frame, pages: &[Page], free: u64) -> PlanRefused
     requires { IsInForm frame.now }
-    ensures { (count : ℕ) (used : List ℕ) → IsFreeCount count used free → free < blocks_for frame.now (map written_page pages.now) → IsPlanRefused count used frame.now pages.now result }
+    ensures { (count : ℕ) (used : List ℕ) → IsFreeCount count used free
+        → free < blocks_for frame.now (map written_page pages.now)
+        → IsPlanRefused count used frame.now pages.now result }
 {
     match blocks_needed(alloc, frame, pages) {
         Ok(need) => PlanRefused::Full { need, free },
@@ -229,11 +238,17 @@ pub fn plan_commit(
     requires most { count ≤ 2 ^ 20 }
     requires form { IsInForm frame.now }
     requires whole { AllByRecursion (λ p. length p.bytes ≡ 4096) pages.items }
-    ensures laid { IfOk result (λ plan. IsLaidOut count used.now epoch frame.now pages.items plan.blocks plan.body) }
-    ensures refused { IfErr result (λ refused. IsPlanRefused count used.now frame.now pages.items refused) }
-    ensures avoids { IfOk result (λ plan. (kept : NewestCheckpoint) → Covers used.now kept → Avoids count kept plan.blocks) }
-    ensures plan { IfOk result (λ plan. (g : Group) → g.frame ≡ frame.now → IsCheckpointed g → ArePagesOf g pages.items → IsPlan count used.now epoch g plan.blocks plan.body) }
+    ensures laid { IfOk result (λ plan. IsLaidOut count used.now epoch frame.now pages.items
+        plan.blocks plan.body) }
+    ensures refused { IfErr result (λ refused. IsPlanRefused count used.now frame.now pages.items
+        refused) }
+    ensures avoids { IfOk result (λ plan. (kept : NewestCheckpoint) → Covers used.now kept
+        → Avoids count kept plan.blocks) }
+    ensures plan { IfOk result (λ plan. (g : Group) → g.frame ≡ frame.now → IsCheckpointed g
+        → ArePagesOf g pages.items → IsPlan count used.now epoch g plan.blocks plan.body) }
 {
+    written_is_held();
+    kept_is_held();
     let mut unused = match rebuild(alloc, count, used) {
         Ok(unused) => unused,
         Err(NoMemory) => return Err(PlanRefused::NoMemory),

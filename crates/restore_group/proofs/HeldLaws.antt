@@ -6,6 +6,7 @@ use Rattle.std.proofs.lemmas.Bool.{false≢true}
 use Rattle.std.proofs.lemmas.List.Elements.{recursion_from_All}
 use Rattle.group_defs.specs.Group.{Group}
 use Rattle.group_defs.specs.Pages.{page_bytes, is_zero_page, nonzero_pages, all_pages}
+use Rattle.group_defs.specs.Valid.{valid_frame}
 use Rattle.group_defs.specs.declared.frame.Frame.{Frame}
 use Rattle.ckpt_chain.specs.Chain.{block, stream_at, Has, InDisk}
 use Rattle.ckpt_chain.specs.Slot.{newest}
@@ -16,7 +17,6 @@ use Rattle.ckpt_chain.specs.declared.stream.StreamRefused.TheVariants.{Broken}
 use Rattle.ckpt_chain.specs.declared.stream.StreamRefused.TheVariants as reasons
 use Rattle.ckpt_chain.specs.Refusals.{FaultRose}
 use Rattle.ckpt_records.proofs.Members.{in_map, from_filter, has_at}
-use Rattle.ckpt_records.proofs.PartLaws.{spells_once}
 use Rattle.ckpt_records.specs.declared.meta.PagePlace.{PagePlace}
 use Rattle.ckpt_records.specs.declared.origin.Origin.{Origin}
 use Rattle.ckpt_records.specs.Holds.{block_count, listed_page, AreListed, HoldsAt, Holds, IsCheckpoint}
@@ -74,6 +74,10 @@ refused_cause Broken epoch before mid after le rose = tt
 refused_cause reasons.DiskFault epoch before mid after le rose = omega (arith, le, rose)
 refused_cause reasons.NoMemory epoch before mid after le rose = tt
 
+-- that bytes spell one frame at most, as ckpt_records promises it
+abbrev pub OneSpelled : Type 0
+OneSpelled = (bytes : List ℕ) (blocks : ℕ) (f g : Frame) (pages others : List PagePlace) → Spells bytes blocks f pages → Spells bytes blocks g others → (f ≡ g) × (pages ≡ others)
+
 -- ---- what an image whose newest slot has a body holds
 
 module _ (image : List ℕ) (count : ℕ) (size : block_count image ≡ count) (slot : Slot) (body : SlotBody) (opened : newest image ≡ Some (slot, body)) where
@@ -85,22 +89,22 @@ module _ (image : List ℕ) (count : ℕ) (size : block_count image ≡ count) (
         bytes = c.bytes;
         stream = subst (λ (n : ℕ). stream_at image n body ≡ Some (c.bytes, h.metas)) size c.stream;
         spelled = subst (λ (n : ℕ). Spells c.bytes n g.frame h.pages) size c.spelled;
-        whole = record { valid = c.group.valid.frame; built = c.group.built; all_marked = c.group.all_marked };
+        whole = record { valid = valid_frame g c.group.valid; built = c.group.built; all_marked = c.group.all_marked };
       }
 
   -- no record was read
   no_meta : ((f : Frame) (pages : List PagePlace) (metas : List ℕ) → IsMeta image count body f pages metas → ⊥) → HoldsNothing image
   no_meta never epoch g h = never g.frame h.pages h.metas (meta_held epoch g h)
 
-  same_pages : (f g : Frame) (pages others : List PagePlace) (metas ends : List ℕ) → IsMeta image count body f pages metas → IsMeta image count body g others ends → others ≡ pages
-  same_pages f g pages others metas ends a b =
+  same_pages : OneSpelled → (f g : Frame) (pages others : List PagePlace) (metas ends : List ℕ) → IsMeta image count body f pages metas → IsMeta image count body g others ends → others ≡ pages
+  same_pages spells_once f g pages others metas ends a b =
       let e : b.bytes ≡ a.bytes = ap (λ (x : List ℕ × List ℕ). x.0) (some_is (b.bytes, ends) (a.bytes, metas) (sym b.stream ∙ a.stream)) in
       (spells_once a.bytes count g f others pages (subst (λ (s : List ℕ). Spells s count g others) e b.spelled) a.spelled).1
 
   -- a page of those that the record lists is all zero
-  some_zero : (f : Frame) (pages : List PagePlace) (metas : List ℕ) → IsMeta image count body f pages metas → (NoneZero image pages → ⊥) → HoldsNothing image
-  some_zero f pages metas meta never epoch g h =
-      let same = same_pages f g.frame pages h.pages metas h.metas meta (meta_held epoch g h) in
+  some_zero : OneSpelled → (f : Frame) (pages : List PagePlace) (metas : List ℕ) → IsMeta image count body f pages metas → (NoneZero image pages → ⊥) → HoldsNothing image
+  some_zero law f pages metas meta never epoch g h =
+      let same = same_pages law f g.frame pages h.pages metas h.metas meta (meta_held epoch g h) in
       never (subst (λ (ps : List PagePlace). NoneZero image ps) same (none_zero image g h.pages h.at.checkpoint.listed))
 
   open_at : IsOpenAt image body.epoch
@@ -129,8 +133,8 @@ module _ (image : List ℕ) (count : ℕ) (size : block_count image ≡ count) (
   pub meta_refused : (r : StreamRefused) → (r ≡ Broken → (f : Frame) (pages : List PagePlace) (metas : List ℕ) → IsMeta image count body f pages metas → ⊥) → IsOutcome image (Err (refusal_of r body.epoch))
   meta_refused r never = refused_outcome r image body.epoch open_at (λ e. no_meta (never e))
 
-  pub layers_refused : (r : StreamRefused) (f : Frame) (pages : List PagePlace) (metas : List ℕ) → IsMeta image count body f pages metas → (r ≡ Broken → NoneZero image pages → ⊥) → IsOutcome image (Err (refusal_of r body.epoch))
-  layers_refused r f pages metas meta never = refused_outcome r image body.epoch open_at (λ e. some_zero f pages metas meta (never e))
+  pub layers_refused : OneSpelled → (r : StreamRefused) (f : Frame) (pages : List PagePlace) (metas : List ℕ) → IsMeta image count body f pages metas → (r ≡ Broken → NoneZero image pages → ⊥) → IsOutcome image (Err (refusal_of r body.epoch))
+  layers_refused law r f pages metas meta never = refused_outcome r image body.epoch open_at (λ e. some_zero law f pages metas meta (never e))
 
 -- ---- on every disk
 

@@ -6,7 +6,7 @@ use Rattle.std.proofs.lemmas.List.{map-append}
 use Rattle.std.proofs.lemmas.List.Elements.{filter-append, All-from_recursion}
 use Rattle.group_defs.specs.Cells.{bytes_in}
 use Rattle.group_defs.specs.Pages.{all_pages, nonzero_pages, page_bytes, is_zero_page, pages_of}
-use Rattle.group_defs.specs.Valid.{IsObject, EndsInZeros}
+use Rattle.group_defs.specs.Valid.{EndsInZeros, IsObject, group_of_parts}
 use Rattle.group_defs.specs.declared.frame.Frame.{Frame}
 use Rattle.group_defs.specs.declared.frame.ObjectRec.{ObjectRec}
 use Rattle.group_files.specs.declared.named_files.FileRec.{FileRec}
@@ -171,7 +171,7 @@ parts_law f pages layers count whole orderly of =
     let fits : AllZip IsObject f.objects memory = memory_fits f.objects shared layers own of in (
       layer_numbers f.objects shared layers own of,
       record {
-        valid = record { frame = whole.valid; memory = fits; files = no_files memory f.files whole.built.files };
+        valid = group_of_parts (record { frame = f; memory = memory }) whole.valid (record { bytes = fits; zeros = no_files memory f.files whole.built.files });
         built = whole.built;
         all_marked = whole.all_marked;
       },

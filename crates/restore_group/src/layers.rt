@@ -30,8 +30,10 @@ pub fn read_layers<D: Disk>(
     requires most { (D.view disk.old).blocks ≤ 2 ^ 20 }
     requires rising { PagesRise pages.now }
     ensures layers { IfOk result (λ v. AreLayersOf (shared_out objects.now pages.now) v) }
-    ensures found { (image : List ℕ) → (D.view disk.old).reading ≡ Some image → IfOk result (λ v. v ≡ layers_in image (shared_out objects.now pages.now)) }
-    ensures only { (image : List ℕ) → (D.view disk.old).reading ≡ Some image → result ≡ Err Broken → NoneZero image pages.now → ⊥ }
+    ensures found { (image : List ℕ) → (D.view disk.old).reading ≡ Some image
+        → IfOk result (λ v. v ≡ layers_in image (shared_out objects.now pages.now)) }
+    ensures only { (image : List ℕ) → (D.view disk.old).reading ≡ Some image → result ≡ Err Broken
+        → NoneZero image pages.now → ⊥ }
     ensures disk { OnlyReads (D.view disk.old) (D.view disk.new) }
     ensures cause { FaultRose (D.view disk.old).faults (D.view disk.new).faults result }
 {
@@ -68,8 +70,10 @@ fn read_layer<D: Disk>(
     requires most { (D.view disk.old).blocks ≤ 2 ^ 20 }
     requires rising { AllPairs (λ p q. p.page < q.page) own.now }
     ensures layer { IfOk result (λ l. IsLayerOf own.now l) }
-    ensures found { (image : List ℕ) → (D.view disk.old).reading ≡ Some image → IfOk result (λ l. l ≡ layer_in image own.now) }
-    ensures only { (image : List ℕ) → (D.view disk.old).reading ≡ Some image → result ≡ Err Broken → NoneZero image own.now → ⊥ }
+    ensures found { (image : List ℕ) → (D.view disk.old).reading ≡ Some image
+        → IfOk result (λ l. l ≡ layer_in image own.now) }
+    ensures only { (image : List ℕ) → (D.view disk.old).reading ≡ Some image → result ≡ Err Broken
+        → NoneZero image own.now → ⊥ }
     ensures disk { OnlyReads (D.view disk.old) (D.view disk.new) }
     ensures cause { FaultRose (D.view disk.old).faults (D.view disk.new).faults result }
 {
@@ -85,8 +89,10 @@ fn read_page<D: Disk>(alloc: Global, disk: &mut D, at: u64) -> Result<PageBuf, S
     requires placed { at < (D.view disk.old).blocks }
     requires most { (D.view disk.old).blocks ≤ 2 ^ 20 }
     ensures page { IfOk result IsPage }
-    ensures found { (image : List ℕ) → (D.view disk.old).reading ≡ Some image → IfOk result (λ p. p ≡ block image at) }
-    ensures only { (image : List ℕ) → (D.view disk.old).reading ≡ Some image → result ≡ Err Broken → IsZero (block image at) }
+    ensures found { (image : List ℕ) → (D.view disk.old).reading ≡ Some image
+        → IfOk result (λ p. p ≡ block image at) }
+    ensures only { (image : List ℕ) → (D.view disk.old).reading ≡ Some image → result ≡ Err Broken
+        → IsZero (block image at) }
     ensures disk { OnlyReads (D.view disk.old) (D.view disk.new) }
     ensures cause { FaultRose (D.view disk.old).faults (D.view disk.new).faults result }
 {

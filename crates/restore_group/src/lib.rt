@@ -8,7 +8,5 @@
 mod layers;
 mod record;
 mod restoring;
-#[cfg(test)]
-mod tests;
 
 pub use restoring::{Refused, restore};

@@ -32,8 +32,11 @@ pub fn meta_of<D: Disk>(
 ) -> Result<(Meta, Seq<u64>), StreamRefused>
     requires least { 16 ≤ (D.view disk.old).blocks }
     requires most { (D.view disk.old).blocks ≤ 2 ^ 20 }
-    ensures found { (image : List ℕ) → (D.view disk.old).reading ≡ Some image → IfOk result (λ r. IsMeta image (D.view disk.old).blocks body r.0.frame r.0.pages r.1) }
-    ensures only { (image : List ℕ) → (D.view disk.old).reading ≡ Some image → result ≡ Err Broken → (f : FrameValue) (pages : List PagePlace) (metas : List ℕ) → IsMeta image (D.view disk.old).blocks body f pages metas → ⊥ }
+    ensures found { (image : List ℕ) → (D.view disk.old).reading ≡ Some image
+        → IfOk result (λ r. IsMeta image (D.view disk.old).blocks body r.0.frame r.0.pages r.1) }
+    ensures only { (image : List ℕ) → (D.view disk.old).reading ≡ Some image → result ≡ Err Broken
+        → (f : FrameValue) (pages : List PagePlace) (metas : List ℕ)
+        → IsMeta image (D.view disk.old).blocks body f pages metas → ⊥ }
     ensures orderly { IfOk result (λ r. IsOrderly (D.view disk.old).blocks r.0.frame r.0.pages) }
     ensures whole { IfOk result (λ r. IsWholeFrame r.0.frame) }
     ensures metas { IfOk result (λ r. (1 ≤ length r.1) × InDisk (D.view disk.old).blocks r.1) }

@@ -9,7 +9,7 @@ ghost use Rattle.restore_group.specs.declared.restoring.Refused.TheVariants as r
 use crate::layers::read_layers;
 use crate::record::meta_of;
 use ckpt_chain::{StreamRefused, read_slots};
-use ckpt_records::{Meta, Origin, Parts, Placement};
+use ckpt_records::{Meta, Origin, Parts, Placement, one_spelled};
 use dev_traits::Disk;
 use std::alloc::Global;
 
@@ -26,7 +26,11 @@ pub enum Refused {
 
 // Why the checkpoint of an epoch wasn't read.
 fn refusal(refused: StreamRefused, epoch: u64) -> Refused
-    ensures { result ≡ elim refused [ reasons.Broken ↦ refusals.Damaged epoch | reasons.DiskFault ↦ refusals.DiskFault | reasons.NoMemory ↦ refusals.NoMemory ] }
+    ensures { result ≡ elim refused [
+      | reasons.Broken ↦ refusals.Damaged epoch
+      | reasons.DiskFault ↦ refusals.DiskFault
+      | reasons.NoMemory ↦ refusals.NoMemory
+    ] }
 {
     match refused {
         StreamRefused::Broken => Refused::Damaged { epoch },
@@ -56,6 +60,7 @@ pub fn restore<D: Disk>(alloc: Global, disk: &mut D) -> Result<Origin, Refused>
         Ok(found) => found,
         Err(refused) => return Err(refusal(refused, body.epoch)),
     };
+    one_spelled();
     let Meta { frame, pages } = meta;
     let layers = match read_layers(alloc, disk, frame.objects.as_slice(), pages.as_slice()) {
         Ok(layers) => layers,

@@ -1,6 +1,6 @@
 -- A run on one thread comes from one rest to the next by a turn, or by a barrier with its fetch and its acknowledgement.
 use Rattle.std.proofs.Common.{◌≡◌, ◌⊎◌, inl, inr, ℕ, ◌+◌, ◌<◌, ◌≤◌, ◌==◌, ◌&&◌, ◌||◌, not, Bool, true, false, List, [], ◌∷◌, ◌++◌, length, map, Option, Some, None, refl, sym, ap, subst, ◌∙◌, arith, append_assoc, append-nil, rules}
-use Rattle.std.specs.Prelude.{if◌then◌else◌, nat_lt, slice_get}
+use Rattle.std.specs.Prelude.{if◌then◌else◌, nat_lt}
 use Rattle.std.specs.List.{AllByRecursion, count_by, filter, find, last_or, list_all, list_any}
 use Rattle.std.proofs.lemmas.List.Folds.{list_any-append}
 use Rattle.std.proofs.lemmas.List.Sums.{fold-append, sum_by-append}
@@ -10,11 +10,11 @@ use Rattle.group_defs.specs.Step.{is_waiting}
 use Rattle.run_defs.specs.declared.run.Limits.{Limits}
 use Rattle.run_defs.specs.declared.run.Mark.{Mark}
 use Rattle.run_defs.specs.declared.run.Mark.TheVariants.{Take, Turn, Barrier, Fetch, Ack}
-use Rattle.run_defs.specs.AtRest.{HasNoMarkOf, IsDue, IsNextTurn, IsTraceAtRest, RestsFollow, acknowledged, fetched, with_turn}
+use Rattle.run_defs.specs.AtRest.{HasNoMarkOf, IsDue, IsNextTurn, IsTraceAtRest, RestsFollow, acknowledged, with_fetched, with_turn}
 use Rattle.run_defs.specs.Ends.{HasEnded, IsDone}
-use Rattle.run_defs.specs.Legal.{AckAllowed, Allowed, BarrierAllowed, FetchAllowed, TakeAllowed, TurnAllowed, has_moved, is_unleased, is_idle, next_pid, ready}
-use Rattle.run_defs.specs.Solo.{IsInSoloOrder, InOrderAfter, IsSoloSoFar, TakeInOrder}
-use Rattle.run_defs.specs.Trace.{after_mark, all_acked, barrier, barriers_in, group_after, is_ack_of, is_acked, is_barrier, is_barrier_of, is_fetch_of, is_lease, is_turn, last_taken, leases, leases_after, since_barrier, turns_in}
+use Rattle.run_defs.specs.Legal.{AckAllowed, Allowed, BarrierAllowed, TakeAllowed, TurnAllowed, has_moved, is_unleased, is_idle, next_pid, ready}
+use Rattle.run_defs.specs.Solo.{IsInSoloOrder, InOrderAfter, IsSoloSoFar}
+use Rattle.run_defs.specs.Trace.{after_mark, all_acked, barrier, group_after, is_ack_of, is_acked, is_barrier, is_barrier_of, is_fetch_of, is_lease, is_turn, last_taken, leases, leases_after, since_barrier, turns_in}
 use Rattle.run_defs.specs.Turns.{IsTurn, does_something, turned}
 use Rattle.run_defs.proofs.TraceLaws.{acked_in, found_before, found_more, group_after-append, legal_more, legal_none}
 
@@ -92,12 +92,12 @@ acked_more : (ms : List Mark) (m : Mark) → ((epoch : ℕ) → is_barrier_of ep
 acked_more ms m other acked = all_from (ms ++ m ∷ []) (ms ++ m ∷ []) (λ epoch h. found_more (is_ack_of epoch) ms m (acked_in ms epoch ms acked (found_before (is_barrier_of epoch) ms m (other epoch) h)))
 
 acked_commit : (ms : List Mark) (e : ℕ) → all_acked ms ≡ true → all_acked (acknowledged ms e) ≡ true
-acked_commit ms e acked = all_from (acknowledged ms e) (acknowledged ms e) (λ epoch h. by_epoch epoch (e == epoch) refl (found_before (is_barrier_of epoch) (ms ++ Barrier e ∷ []) (Fetch e) refl (found_before (is_barrier_of epoch) (fetched ms e) (Ack e) refl h)))
+acked_commit ms e acked = all_from (acknowledged ms e) (acknowledged ms e) (λ epoch h. by_epoch epoch (e == epoch) refl (found_before (is_barrier_of epoch) (ms ++ Barrier e ∷ []) (Fetch e) refl (found_before (is_barrier_of epoch) (with_fetched ms e) (Ack e) refl h)))
   where
     by_epoch : (epoch : ℕ) (t : Bool) → (e == epoch) ≡ t → list_any (is_barrier_of epoch) (ms ++ Barrier e ∷ []) ≡ true → list_any (is_ack_of epoch) (acknowledged ms e) ≡ true
-    by_epoch epoch true is h = found_last (is_ack_of epoch) (fetched ms e) (Ack e) is
+    by_epoch epoch true is h = found_last (is_ack_of epoch) (with_fetched ms e) (Ack e) is
     by_epoch epoch false is h =
-        found_more (is_ack_of epoch) (fetched ms e) (Ack e) (found_more (is_ack_of epoch) (ms ++ Barrier e ∷ []) (Fetch e) (found_more (is_ack_of epoch) ms (Barrier e) (acked_in ms epoch ms acked (found_before (is_barrier_of epoch) ms (Barrier e) is h))))
+        found_more (is_ack_of epoch) (with_fetched ms e) (Ack e) (found_more (is_ack_of epoch) (ms ++ Barrier e ∷ []) (Fetch e) (found_more (is_ack_of epoch) ms (Barrier e) (acked_in ms epoch ms acked (found_before (is_barrier_of epoch) ms (Barrier e) is h))))
 
 -- ---- who is ready
 
@@ -254,14 +254,14 @@ module _ (start : Group) (origin : ℕ) (limits : Limits) (marks : List Mark) (g
     unfolding here made_marks
     so_far_made = so_far_more start origin limits marks (Barrier (epoch + 1)) at.so_far barrier_due tt
 
-    pub fetch : IsSoloSoFar start origin limits (fetched marks (epoch + 1))
+    pub fetch : IsSoloSoFar start origin limits (with_fetched marks (epoch + 1))
     unfolding made_marks
     fetch =
         so_far_more start origin limits made_marks (Fetch (epoch + 1)) so_far_made
         (record { made = found_last (is_barrier_of (epoch + 1)) marks (Barrier (epoch + 1)) (itself (epoch + 1)); first = none_more (is_fetch_of (epoch + 1)) marks (Barrier (epoch + 1)) none_yet.1 refl })
         (last_at None marks (Barrier (epoch + 1)))
 
-    ack_allowed : AckAllowed (fetched marks (epoch + 1)) (epoch + 1)
+    ack_allowed : AckAllowed (with_fetched marks (epoch + 1)) (epoch + 1)
     unfolding made_marks
     ack_allowed = record {
       fetched = found_last (is_fetch_of (epoch + 1)) made_marks (Fetch (epoch + 1)) (itself (epoch + 1));
@@ -271,7 +271,7 @@ module _ (start : Group) (origin : ℕ) (limits : Limits) (marks : List Mark) (g
     none_after : (e : ℕ) → epoch + 1 < e → HasNoMarkOf e (acknowledged marks (epoch + 1))
     none_after e later =
         let other : (epoch + 1 == e) ≡ false = grind (arith, later) in
-        no_mark_more e (fetched marks (epoch + 1)) (Ack (epoch + 1))
+        no_mark_more e (with_fetched marks (epoch + 1)) (Ack (epoch + 1))
         (no_mark_more e (marks ++ Barrier (epoch + 1) ∷ []) (Fetch (epoch + 1)) (no_mark_more e marks (Barrier (epoch + 1)) (at.none_later e (omega (arith, later))) other refl refl) refl other refl) refl refl other
 
     -- the same of what neither a Barrier's fetch nor its acknowledgement changes
@@ -279,7 +279,7 @@ module _ (start : Group) (origin : ℕ) (limits : Limits) (marks : List Mark) (g
     unfolding made_marks
     commit =
         let e = epoch + 1 in
-        let two = fetched marks e in
+        let two = with_fetched marks e in
         record {
           so_far = so_far_more start origin limits two (Ack e) fetch ack_allowed (last_at None made_marks (Fetch e));
           group = group_more limits.quantum start two (Ack e) ∙ group_more limits.quantum start made_marks (Fetch e) ∙ group_more limits.quantum start marks (Barrier e) ∙ ap barrier at.group;

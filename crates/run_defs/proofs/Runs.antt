@@ -7,6 +7,7 @@ use Rattle.rv64_isa.specs.Numbers.{number_of}
 use Rattle.rv64_isa.specs.Instruction.{act_of}
 use Rattle.rv64_isa.specs.Reading.{op_imm_by, imm_by, system_by, imm_i, imm_u, instr_by}
 use Rattle.tables.specs.Lists.{on_first}
+use Rattle.group_defs.specs.Held.{is_held, is_kept}
 use Rattle.group_defs.specs.Group.{Group, is_running, runner}
 use Rattle.group_defs.specs.Cells.{cells_of, with_writes}
 use Rattle.group_defs.specs.Write.{write}
@@ -40,7 +41,7 @@ not_due : (origin : ℕ) (limits : Limits) (before : List Mark) (g : Group) → 
 not_due origin limits before g few less some epoch b = elim b.due [ inl e ↦ few e | inr (inl e) ↦ less e | inr (inr e) ↦ some e ]
 
 pub exit_solo : (rest stack : List ℕ) → IsSoloTrace (exits_at_once rest stack) 0 default_limits exit_trace
-unfolding LegalAfter InOrderAfter ready group_after all_appended is_local is_waiting AllLocal runner cells_of bytes_with number_of act_of imm_by imm_i imm_u op_imm_by instr_by on_first with_writes do_step steps_of reply_in ended system_by is_of_file maps_object write
+unfolding LegalAfter InOrderAfter ready group_after all_appended is_local is_waiting AllLocal runner cells_of bytes_with number_of act_of imm_by imm_i imm_u op_imm_by instr_by on_first with_writes do_step steps_of reply_in ended system_by is_of_file maps_object write is_held is_kept
 exit_solo rest stack = record {
   so_far = record {
     legal = (record { worker_is = omega arith; idle = refl; next = refl; since = omega arith; all = omega arith }, (record { leased = refl; turn = record { within = omega arith; all_local = ((tt, refl), refl); no_more = λ _. refl }; moves = refl }, (record { rises = refl; no_lease = refl; acked = refl; turn = omega arith; due = inr (inr refl) }, (record { made = refl; first = refl }, (record { fetched = refl; first = refl }, tt)))));
@@ -50,15 +51,15 @@ exit_solo rest stack = record {
 }
 
 pub exit_done : (rest stack : List ℕ) → IsDone (group_after 1000 (exits_at_once rest stack) exit_trace)
-unfolding LegalAfter InOrderAfter ready group_after all_appended is_local is_waiting AllLocal runner cells_of bytes_with number_of act_of imm_by imm_i imm_u op_imm_by instr_by on_first with_writes do_step steps_of reply_in ended system_by is_of_file maps_object write
+unfolding LegalAfter InOrderAfter ready group_after all_appended is_local is_waiting AllLocal runner cells_of bytes_with number_of act_of imm_by imm_i imm_u op_imm_by instr_by on_first with_writes do_step steps_of reply_in ended system_by is_of_file maps_object write is_held is_kept
 exit_done rest stack = refl
 
 pub exit_output : (rest stack : List ℕ) → output 1000 (exits_at_once rest stack) exit_trace ≡ []
-unfolding LegalAfter InOrderAfter ready group_after all_appended is_local is_waiting AllLocal runner cells_of bytes_with number_of act_of imm_by imm_i imm_u op_imm_by instr_by on_first with_writes do_step steps_of reply_in ended system_by is_of_file maps_object write
+unfolding LegalAfter InOrderAfter ready group_after all_appended is_local is_waiting AllLocal runner cells_of bytes_with number_of act_of imm_by imm_i imm_u op_imm_by instr_by on_first with_writes do_step steps_of reply_in ended system_by is_of_file maps_object write is_held is_kept
 exit_output rest stack = refl
 
 pub hi_solo : (rest stack : List ℕ) → IsSoloTrace (says_hi rest stack) 0 default_limits hi_trace
-unfolding LegalAfter InOrderAfter ready group_after all_appended is_local is_waiting AllLocal runner cells_of bytes_with number_of act_of imm_by imm_i imm_u op_imm_by instr_by on_first with_writes do_step steps_of reply_in ended system_by is_of_file maps_object write
+unfolding LegalAfter InOrderAfter ready group_after all_appended is_local is_waiting AllLocal runner cells_of bytes_with number_of act_of imm_by imm_i imm_u op_imm_by instr_by on_first with_writes do_step steps_of reply_in ended system_by is_of_file maps_object write is_held is_kept
 hi_solo rest stack = record {
   so_far = record {
     legal = (record { worker_is = omega arith; idle = refl; next = refl; since = omega arith; all = omega arith }, (record { leased = refl; turn = record { within = omega arith; all_local = (((((tt, refl), refl), refl), refl), refl); no_more = λ _. refl }; moves = refl }, (record { worker_is = omega arith; idle = refl; next = refl; since = omega arith; all = omega arith }, (record { leased = refl; turn = record { within = omega arith; all_local = ((tt, refl), refl); no_more = λ _. refl }; moves = refl }, (record { rises = refl; no_lease = refl; acked = refl; turn = omega arith; due = inr (inr refl) }, (record { made = refl; first = refl }, (record { fetched = refl; first = refl }, tt)))))));
@@ -83,25 +84,25 @@ hi_solo rest stack = record {
 }
 
 pub hi_done : (rest stack : List ℕ) → IsDone (group_after 1000 (says_hi rest stack) hi_trace)
-unfolding LegalAfter InOrderAfter ready group_after all_appended is_local is_waiting AllLocal runner cells_of bytes_with number_of act_of imm_by imm_i imm_u op_imm_by instr_by on_first with_writes do_step steps_of reply_in ended system_by is_of_file maps_object write
+unfolding LegalAfter InOrderAfter ready group_after all_appended is_local is_waiting AllLocal runner cells_of bytes_with number_of act_of imm_by imm_i imm_u op_imm_by instr_by on_first with_writes do_step steps_of reply_in ended system_by is_of_file maps_object write is_held is_kept
 hi_done rest stack = refl
 
 pub hi_output : (rest stack : List ℕ) → output 1000 (says_hi rest stack) hi_trace ≡ 0x68 ∷ 0x69 ∷ 0x0a ∷ []
-unfolding LegalAfter InOrderAfter ready group_after all_appended is_local is_waiting AllLocal runner cells_of bytes_with number_of act_of imm_by imm_i imm_u op_imm_by instr_by on_first with_writes do_step steps_of reply_in ended system_by is_of_file maps_object write
+unfolding LegalAfter InOrderAfter ready group_after all_appended is_local is_waiting AllLocal runner cells_of bytes_with number_of act_of imm_by imm_i imm_u op_imm_by instr_by on_first with_writes do_step steps_of reply_in ended system_by is_of_file maps_object write is_held is_kept
 hi_output rest stack = refl
 
 pub refused_at : (rest stack : List ℕ) → map (λ (p : Proc). slice_index p.regs 9) (steps_of (asks_in_vain rest stack) 1 3).frame.procs ≡ 18446744073709551607 ∷ []
-unfolding runner cells_of bytes_with number_of act_of imm_by imm_i imm_u op_imm_by instr_by on_first with_writes do_step steps_of reply_in ended system_by is_of_file maps_object write
+unfolding runner cells_of bytes_with number_of act_of imm_by imm_i imm_u op_imm_by instr_by on_first with_writes do_step steps_of reply_in ended system_by is_of_file maps_object write is_held is_kept
 refused_at rest stack = refl
 
 pub unreadable_at : (rest stack : List ℕ) → map (λ (p : Proc). slice_index p.regs 9) (steps_of (asks_in_vain rest stack) 1 7).frame.procs ≡ 18446744073709551602 ∷ []
-unfolding runner cells_of bytes_with number_of act_of imm_by imm_i imm_u op_imm_by instr_by on_first with_writes do_step steps_of reply_in ended system_by is_of_file maps_object write
+unfolding runner cells_of bytes_with number_of act_of imm_by imm_i imm_u op_imm_by instr_by on_first with_writes do_step steps_of reply_in ended system_by is_of_file maps_object write is_held is_kept
 unreadable_at rest stack = refl
 
 pub unknown_at : (rest stack : List ℕ) → map (λ (p : Proc). slice_index p.regs 9) (steps_of (asks_in_vain rest stack) 1 9).frame.procs ≡ 18446744073709551578 ∷ []
-unfolding runner cells_of bytes_with number_of act_of imm_by imm_i imm_u op_imm_by instr_by on_first with_writes do_step steps_of reply_in ended system_by is_of_file maps_object write
+unfolding runner cells_of bytes_with number_of act_of imm_by imm_i imm_u op_imm_by instr_by on_first with_writes do_step steps_of reply_in ended system_by is_of_file maps_object write is_held is_kept
 unknown_at rest stack = refl
 
 pub family_ends : (rest parents childs : List ℕ) → steps_of (family rest parents childs) 2 3 ≡ family_left parents childs
-unfolding runner cells_of bytes_with number_of act_of imm_by imm_i imm_u op_imm_by instr_by on_first with_writes do_step steps_of reply_in ended system_by is_of_file maps_object write
+unfolding runner cells_of bytes_with number_of act_of imm_by imm_i imm_u op_imm_by instr_by on_first with_writes do_step steps_of reply_in ended system_by is_of_file maps_object write is_held is_kept
 family_ends rest parents childs = refl

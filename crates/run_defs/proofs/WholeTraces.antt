@@ -8,11 +8,11 @@ use Rattle.group_defs.specs.Step.{is_local}
 use Rattle.run_defs.specs.declared.run.Limits.{Limits}
 use Rattle.run_defs.specs.declared.run.Mark.{Mark}
 use Rattle.run_defs.specs.declared.run.Mark.TheVariants.{Take, Turn, Barrier, Fetch, Ack}
-use Rattle.run_defs.specs.AtRest.{IsDue, IsNextTurn, IsTraceAtRest, acknowledged, fetched, with_turn}
-use Rattle.run_defs.specs.Ends.{HasEnded, IsDone, IsSpent, IsStuck}
+use Rattle.run_defs.specs.AtRest.{IsDue, IsNextTurn, IsTraceAtRest, acknowledged, with_fetched, with_turn}
+use Rattle.run_defs.specs.Ends.{IsDone, IsSpent, IsStuck}
 use Rattle.run_defs.specs.Legal.{Allowed, BarrierAllowed, LegalAfter, TakeAllowed, is_unleased, next_pid, ready}
 use Rattle.run_defs.specs.Solo.{IsInSoloOrder, InOrderAfter, IsSoloPrefix, IsSoloSoFar, IsSoloTrace}
-use Rattle.run_defs.specs.Trace.{all_acked, barrier, group_after, is_ack_of, is_barrier_of, is_lease, last_taken, leases, turns_in}
+use Rattle.run_defs.specs.Trace.{all_acked, barrier, group_after, is_ack_of, is_barrier_of, last_taken, leases}
 use Rattle.run_defs.specs.Turns.{AllLocal, IsTurn, steps_of, turned}
 use Rattle.run_defs.proofs.AtRest.{all_free, begin, commit, done_ready, found_last, group_taken, itself, last_at, leases_taken, turn}
 use Rattle.run_defs.proofs.OutputLaws.{barrier_last, output_held}
@@ -67,7 +67,7 @@ data Phase (start : Group) (origin : ℕ) (limits : Limits) (ms : List Mark) : T
   resting : Rest start origin limits ms → Phase start origin limits ms
   turning : (marks : List Mark) (r : Rest start origin limits marks) (pid : ℕ) → IsNextTurn limits marks r.g r.made r.since pid → ms ≡ marks ++ Take 0 pid ∷ [] → Phase start origin limits ms
   making : (marks : List Mark) (r : Rest start origin limits marks) → IsDue limits r.g r.made r.since → ms ≡ marks ++ Barrier (r.epoch + 1) ∷ [] → Phase start origin limits ms
-  committing : (marks : List Mark) (r : Rest start origin limits marks) → IsDue limits r.g r.made r.since → ms ≡ fetched marks (r.epoch + 1) → Phase start origin limits ms
+  committing : (marks : List Mark) (r : Rest start origin limits marks) → IsDue limits r.g r.made r.since → ms ≡ with_fetched marks (r.epoch + 1) → Phase start origin limits ms
 
 -- a run whose start has nothing new behind its mark
 record IsRun (start : Group) (limits : Limits) : Type 0 where
@@ -105,7 +105,7 @@ module _ (start : Group) (origin : ℕ) (limits : Limits) (run : IsRun start lim
         few = r.few;
         within = omega arith;
         nothing_new = λ none. subst P r.at.group (sym (barrier_last (group_after limits.quantum start marks).frame.out held.mark_above held.mark_below));
-        last = subst EndsInterval (sym (last_at None (fetched marks (r.epoch + 1)) (Ack (r.epoch + 1)))) tt;
+        last = subst EndsInterval (sym (last_at None (with_fetched marks (r.epoch + 1)) (Ack (r.epoch + 1)))) tt;
       }
 
   -- a barrier without its acknowledgement
@@ -127,9 +127,9 @@ module _ (start : Group) (origin : ℕ) (limits : Limits) (run : IsRun start lim
       absurd (unacked marks (marks ++ Barrier e ∷ []) r (found_last (is_barrier_of e) marks (Barrier e) (itself e)) (found_before (is_ack_of e) marks (Barrier e) refl) (sym (ap all_acked is) ∙ acked))
   rest_of ms (committing marks r due is) none acked =
       let e = r.epoch + 1 in
-      absurd (unacked marks (fetched marks e) r (list_found e marks) (λ h. found_before (is_ack_of e) marks (Barrier e) refl (found_before (is_ack_of e) (marks ++ Barrier e ∷ []) (Fetch e) refl h)) (sym (ap all_acked is) ∙ acked))
+      absurd (unacked marks (with_fetched marks e) r (list_found e marks) (λ h. found_before (is_ack_of e) marks (Barrier e) refl (found_before (is_ack_of e) (marks ++ Barrier e ∷ []) (Fetch e) refl h)) (sym (ap all_acked is) ∙ acked))
     where
-      list_found : (e : ℕ) (marks : List Mark) → list_any (is_barrier_of e) (fetched marks e) ≡ true
+      list_found : (e : ℕ) (marks : List Mark) → list_any (is_barrier_of e) (with_fetched marks e) ≡ true
       list_found e marks = found_more (is_barrier_of e) (marks ++ Barrier e ∷ []) (Fetch e) (found_last (is_barrier_of e) marks (Barrier e) (itself e))
 
   after_take : (ms : List Mark) (worker pid : ℕ) (r : Rest start origin limits ms) → worker ≡ 0 → TakeAllowed limits ms (group_after limits.quantum start ms) worker pid → Phase start origin limits (ms ++ Take worker pid ∷ [])
@@ -175,7 +175,7 @@ module _ (start : Group) (origin : ℕ) (limits : Limits) (run : IsRun start lim
   after_ack ms e (committing marks r due is) o =
       let last : Some (Fetch (r.epoch + 1)) ≡ Some (Fetch e) = sym (last_at None (marks ++ Barrier (r.epoch + 1) ∷ []) (Fetch (r.epoch + 1))) ∙ sym (ap (last_or None) is) ∙ o in
       let same : r.epoch + 1 ≡ e = cc in
-      let whole : ms ++ Ack e ∷ [] ≡ acknowledged marks (r.epoch + 1) = ap (λ (l : List Mark). l ++ Ack e ∷ []) is ∙ ap (λ (k : ℕ). fetched marks (r.epoch + 1) ++ Ack k ∷ []) (sym same) in
+      let whole : ms ++ Ack e ∷ [] ≡ acknowledged marks (r.epoch + 1) = ap (λ (l : List Mark). l ++ Ack e ∷ []) is ∙ ap (λ (k : ℕ). with_fetched marks (r.epoch + 1) ++ Ack k ∷ []) (sym same) in
       resting (subst (Rest start origin limits) (sym whole) (committed_rest marks r due))
 
   phase_after : (ms : List Mark) (m : Mark) → Phase start origin limits ms → Allowed start origin limits ms m → IsInSoloOrder start origin limits ms m → Phase start origin limits (ms ++ m ∷ [])
@@ -199,7 +199,7 @@ module _ (start : Group) (origin : ℕ) (limits : Limits) (run : IsRun start lim
   whole_from ms more w = (more ++ w.0, let P : List Mark → Type 0 = λ x. IsSoloTrace start origin limits x in subst P (append_assoc ms more w.0) w.1)
 
   whole_commit : (ms : List Mark) (e : ℕ) → Whole (acknowledged ms e) → Whole ms
-  whole_commit ms e w = whole_from ms (Barrier e ∷ []) (whole_from (ms ++ Barrier e ∷ []) (Fetch e ∷ []) (whole_from (fetched ms e) (Ack e ∷ []) w))
+  whole_commit ms e w = whole_from ms (Barrier e ∷ []) (whole_from (ms ++ Barrier e ∷ []) (Fetch e ∷ []) (whole_from (with_fetched ms e) (Ack e ∷ []) w))
 
   -- rests from which one turn more was made lead to an end
   abbrev TurnsEnd : ℕ → Type 0
@@ -275,10 +275,10 @@ module _ (start : Group) (origin : ℕ) (limits : Limits) (run : IsRun start lim
       subst Whole (sym is) (whole_from (marks ++ Take 0 pid ∷ []) (Turn 0 pid n.0 ∷ []) (to_end (with_turn marks pid n.0) (turned_rest marks r pid n.0 next n.1)))
   from_phase ms (making marks r due is) =
       let e = r.epoch + 1 in
-      subst Whole (sym is) (whole_from (marks ++ Barrier e ∷ []) (Fetch e ∷ []) (whole_from (fetched marks e) (Ack e ∷ []) (to_end (acknowledged marks e) (committed_rest marks r due))))
+      subst Whole (sym is) (whole_from (marks ++ Barrier e ∷ []) (Fetch e ∷ []) (whole_from (with_fetched marks e) (Ack e ∷ []) (to_end (acknowledged marks e) (committed_rest marks r due))))
   from_phase ms (committing marks r due is) =
       let e = r.epoch + 1 in
-      subst Whole (sym is) (whole_from (fetched marks e) (Ack e ∷ []) (to_end (acknowledged marks e) (committed_rest marks r due)))
+      subst Whole (sym is) (whole_from (with_fetched marks e) (Ack e ∷ []) (to_end (acknowledged marks e) (committed_rest marks r due)))
 
 -- what a run has logged so far is the beginning of a whole trace
 pub is_prefix : (start : Group) (origin : ℕ) (limits : Limits) (ms : List Mark) → start.frame.out.from ≤ start.frame.out.mark → start.frame.out.mark ≡ last_position start.frame.out → 0 < limits.every → IsSoloSoFar start origin limits ms → IsSoloPrefix start origin limits ms

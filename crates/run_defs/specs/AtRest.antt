@@ -41,11 +41,11 @@ IsDue limits g made since = (0 < since) × ((since ≡ limits.every) ⊎ ((made 
 abbrev pub with_turn : List Mark → ℕ → ℕ → List Mark
 with_turn marks pid n = (marks ++ Take 0 pid ∷ []) ++ Turn 0 pid n ∷ []
 
-abbrev pub fetched : List Mark → ℕ → List Mark
-fetched marks epoch = (marks ++ Barrier epoch ∷ []) ++ Fetch epoch ∷ []
+abbrev pub with_fetched : List Mark → ℕ → List Mark
+with_fetched marks epoch = (marks ++ Barrier epoch ∷ []) ++ Fetch epoch ∷ []
 
 abbrev pub acknowledged : List Mark → ℕ → List Mark
-acknowledged marks epoch = fetched marks epoch ++ Ack epoch ∷ []
+acknowledged marks epoch = with_fetched marks epoch ++ Ack epoch ∷ []
 
 -- A run begins at rest, and comes from one rest to the next by a turn or by a commit.
 pub record RestsFollow (start : Group) (origin : ℕ) (limits : Limits) : Type 0 where
@@ -56,7 +56,7 @@ pub record RestsFollow (start : Group) (origin : ℕ) (limits : Limits) : Type 0
       → IsNextTurn limits marks g made since pid → IsTurn limits.quantum g pid n
       → IsTraceAtRest start origin limits (with_turn marks pid n) (turned limits.quantum g pid n) (made + 1) (since + 1) epoch
   pub fetch : (marks : List Mark) (g : Group) (made since epoch : ℕ) → IsTraceAtRest start origin limits marks g made since epoch
-      → IsDue limits g made since → IsSoloSoFar start origin limits (fetched marks (epoch + 1))
+      → IsDue limits g made since → IsSoloSoFar start origin limits (with_fetched marks (epoch + 1))
   pub commit : (marks : List Mark) (g : Group) (made since epoch : ℕ) → IsTraceAtRest start origin limits marks g made since epoch
       → IsDue limits g made since → IsTraceAtRest start origin limits (acknowledged marks (epoch + 1)) (barrier g) made 0 (epoch + 1)
 

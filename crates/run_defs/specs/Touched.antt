@@ -1,6 +1,6 @@
 -- Which pages an interval between two barriers touched: those that a checkpoint has to write.
-use Rattle.std.specs.Prelude.{ℕ, zero, suc, ◌+◌, ◌*◌, ◌/◌, ◌&&◌, ◌==◌, not, Bool, if◌then◌else◌, List, [], ◌∷◌, ◌++◌, map, take, drop, Some, None, IsTrue}
-use Rattle.std.specs.List.{flat_map, filter, list_any, list_all, range_with_len}
+use Rattle.std.specs.Prelude.{ℕ, zero, suc, ◌+◌, ◌*◌, ◌/◌, ◌&&◌, ◌==◌, if◌then◌else◌, List, [], ◌∷◌, ◌++◌}
+use Rattle.std.specs.List.{filter}
 use Rattle.run_defs.specs.declared.run.Mark.{Mark}
 use Rattle.run_defs.specs.declared.run.Mark.TheVariants.{Take, Turn, Barrier, Fetch, Ack}
 use Rattle.group_defs.specs.Group.{Group}
@@ -37,6 +37,3 @@ touched_at_start g origin = if origin == 0 then nonzero_pages g else []
 -- The pages of the group at the Barrier of an epoch that were touched in the interval which ends there, each once.
 abbrev pub touched_pages : ℕ → Group → ℕ → List Mark → ℕ → List (ℕ × ℕ)
 touched_pages quantum g origin marks epoch = touched_from quantum g (touched_at_start g origin) marks epoch
-
-abbrev pub IsTouched : ℕ → Group → ℕ → List Mark → ℕ → ℕ → ℕ → Type 0
-IsTouched quantum g origin marks epoch object page = IsTrue (is_among (touched_pages quantum g origin marks epoch) (object, page))

@@ -79,9 +79,6 @@ pub record IsSafeRun (run : RunSoFar) (opened_at : ℕ) (acks : List AckMark) (d
     (out out' : SinkView) (answer : RunAnswer) : Type 0 where
   pub legal : Legal run.start run.origin run.limits run.trace
   pub stands : IsSafeSoFar run opened_at acks disk disk' out out'
-  -- After any answer but a disk fault no commit is under way: a stop now leaves what was acknowledged last.
-  pub current : (answer ≡ DiskFault → ⊥)
-      → ForSome disk.reading (λ r. (image : List ℕ) → LeftNow disk' image → HoldsLastAcknowledged run acks image)
   pub ends : EndsFor run disk disk' out out' answer
 
 -- it ended by itself
@@ -95,5 +92,8 @@ EndsByItself answer = ⊥
 pub record IsSoloRun (run : RunSoFar) (opened_at : ℕ) (acks : List AckMark) (disk disk' : DiskView)
     (out out' : SinkView) (answer : RunAnswer) : Type 0 where
   pub safe : IsSafeRun run opened_at acks disk disk' out out' answer
+  -- After any answer but a disk fault no commit is under way: a stop now leaves what was acknowledged last.
+  pub current : (answer ≡ DiskFault → ⊥)
+      → ForSome disk.reading (λ r. (image : List ℕ) → LeftNow disk' image → HoldsLastAcknowledged run acks image)
   pub order : IsSoloPrefix run.start run.origin run.limits run.trace
   pub whole : EndsByItself answer → IsSoloTrace run.start run.origin run.limits run.trace

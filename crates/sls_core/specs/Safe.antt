@@ -1,6 +1,6 @@
 -- What a run leaves: on its disk, whenever that stops, and at the output.
 use Rattle.std.specs.Prelude.{◌≡◌, ◌⊎◌, ◌≤◌, ◌+◌, ℕ, List, [], ◌∷◌, map, Some, None, IsTrue}
-use Rattle.std.specs.List.{list_any, filter_map, AllByRecursion}
+use Rattle.std.specs.List.{list_any, AllByRecursion}
 use Rattle.dev_traits.specs.Commits.{nothing_written, unchanged}
 use Rattle.dev_traits.specs.Disk.{CommitsBy, DiskView}
 use Rattle.dev_traits.specs.Outside.{SinkView, Takes}
@@ -10,10 +10,9 @@ use Rattle.run_defs.specs.declared.run.Mark.{Mark}
 use Rattle.run_defs.specs.Ends.{IsSettled}
 use Rattle.group_defs.specs.Group.{Group}
 use Rattle.group_defs.specs.Output.{last_position}
-use Rattle.run_defs.specs.Trace.{IsGroupOf, group_after, is_barrier_of, mark_of, acked_epoch, is_fetch_of}
+use Rattle.run_defs.specs.Trace.{IsGroupOf, group_after, is_barrier_of, mark_of, acked_epochs, is_fetch_of, output_between}
 use Rattle.ckpt_chain.specs.Slot.{newest}
 use Rattle.ckpt_records.specs.Holds.{Holds}
-use Rattle.run_defs.specs.Trace.{output_between}
 
 -- no commit has begun on the disk, as far as it tells its commits
 abbrev pub HasNoneBegun : DiskView → Type 0
@@ -73,7 +72,7 @@ NeverFall from (a ∷ acks) to = (from ≤ a.at) × NeverFall a.at acks to
 
 -- The acknowledgements are those of the trace, each with its moment: the call's, the opening's, theirs and the answer's never fall.
 pub record AreAcks (run : RunSoFar) (opened_at : ℕ) (acks : List AckMark) (before after : DiskView) : Type 0 where
-  pub epochs : map (λ a. a.epoch) acks ≡ filter_map acked_epoch run.trace
+  pub epochs : map (λ a. a.epoch) acks ≡ acked_epochs run.trace
   pub opening : before.moment ≤ opened_at
   pub moments : NeverFall opened_at acks after.moment
 

@@ -76,7 +76,7 @@ safe_run : (limits : Limits) (start : Group) (origin : ℕ) → IsStart limits s
     → IsSafeSoFar (run_of limits start origin trace) disk0.moment acks disk0 disk out0 out → ((answer ≡ DiskFault → ⊥) → ForSome disk0.reading (λ r. (image : List ℕ) → LeftNow disk image → HoldsLastAcknowledged (run_of limits start origin trace) acks image))
     → EndsFor (run_of limits start origin trace) disk0 disk out0 out answer → (EndsByItself answer → IsSoloTrace start origin limits trace) → IsSoloRun (run_of limits start origin trace) disk0.moment acks disk0 disk out0 out answer
 safe_run limits start origin s trace so_far acks disk0 disk out0 out answer safe current ends whole =
-    record { safe = record { legal = so_far.legal; stands = safe; current = current; ends = ends }; order = s.prefix trace so_far; whole = whole }
+    record { safe = record { legal = so_far.legal; stands = safe; ends = ends }; current = current; order = s.prefix trace so_far; whole = whole }
 
 itself : (n : ℕ) → (n == n) ≡ true
 itself n = grind arith

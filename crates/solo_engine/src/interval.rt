@@ -36,9 +36,11 @@ fn turns_to_barrier(
     requires every { (1 ≤ limits.every) × (limits.every ≤ 10000) }
     requires room { last_position g.old.out ≤ 2 ^ 62 + 1048576 * made }
     requires turns { limits.turns ≤ 1000000 }
-    ensures comes { IfOk result (λ n. ComesToBarrier limits trace.old.items trace.new.items (group_in g.old) (group_in g.new) made n) }
+    ensures comes { IfOk result (λ n. ComesToBarrier limits trace.old.items trace.new.items
+        (group_in g.old) (group_in g.new) made n) }
     ensures runnable { OnOk result (IsRunnable (group_in g.new)) }
-    ensures err { OnErr result (StopsTurning limits trace.old.items trace.new.items (group_in g.old) made) }
+    ensures err { OnErr result (StopsTurning limits trace.old.items trace.new.items (group_in g.old)
+        made) }
 {
     one_trace_on_one_thread();
     output_is_the_groups();
@@ -76,12 +78,15 @@ pub fn turn_to_fetch(
     requires room { last_position engine.old.group.out ≤ 2 ^ 62 + 1048576 * engine.old.made }
     requires turns { limits.turns ≤ 1000000 }
     requires epoch { engine.old.kept.epoch < 2 ^ 63 }
-    ensures fetched { OnOk result (IsFetched limits engine.old.kept.epoch log.old.trace.items log.new.trace.items (group_in engine.old.group) (group_in engine.new.group) engine.old.made engine.new.made) }
+    ensures fetched { OnOk result (IsFetched limits engine.old.kept.epoch log.old.trace.items
+        log.new.trace.items (group_in engine.old.group) (group_in engine.new.group) engine.old.made
+        engine.new.made) }
     ensures kept { engine.new.kept ≡ engine.old.kept }
     ensures acks { log.new.acks.items ≡ log.old.acks.items }
     ensures left { OnOk result (vec_len log.new.trace < vec_capacity log.new.trace) }
     ensures ack_left { OnOk result (vec_len log.new.acks < vec_capacity log.new.acks) }
-    ensures err { OnErr result (StopsTurning limits log.old.trace.items log.new.trace.items (group_in engine.old.group) engine.old.made) }
+    ensures err { OnErr result (StopsTurning limits log.old.trace.items log.new.trace.items
+        (group_in engine.old.group) engine.old.made) }
 {
     let made = turns_to_barrier(&mut engine.group, limits, engine.made, &mut log.trace)?;
     engine.made = made;
@@ -124,8 +129,10 @@ fn plan_of(
     requires frame { frame.now ≡ (group_in engine.now.group).frame }
     requires pages { ArePagesOf (group_in engine.now.group) pages.items }
     requires whole { AllByRecursion (λ p. length p.bytes ≡ 4096) pages.items }
-    ensures ready { IfOk result (λ ready. IsPlanned count (group_in engine.now.group) engine.now.kept ready) }
-    ensures refused { IfErr result (λ refused. IsPlanRefused count engine.now.kept.used.items frame.now pages.items refused) }
+    ensures ready { IfOk result (λ ready. IsPlanned count (group_in engine.now.group)
+        engine.now.kept ready) }
+    ensures refused { IfErr result (λ refused. IsPlanRefused count engine.now.kept.used.items
+        frame.now pages.items refused) }
 {
     let epoch = engine.kept.epoch + 1;
     let plan = match plan_commit(alloc, count, &engine.kept.used, epoch, frame, pages) {
@@ -148,8 +155,10 @@ pub fn planned_commit(
     requires most { count ≤ 2 ^ 20 }
     requires checkpointed { IsCheckpointed (group_in engine.now.group) }
     requires epoch { engine.now.kept.epoch < 2 ^ 63 }
-    ensures ready { IfOk result (λ ready. IsPlanned count (group_in engine.now.group) engine.now.kept ready) }
-    ensures refused { IfErr result (λ answer. IsUnplanned count (group_in engine.now.group) engine.now.kept answer) }
+    ensures ready { IfOk result (λ ready. IsPlanned count (group_in engine.now.group)
+        engine.now.kept ready) }
+    ensures refused { IfErr result (λ answer. IsUnplanned count (group_in engine.now.group)
+        engine.now.kept answer) }
 {
     let (frame, pages) = match freeze(alloc, &engine.group) {
         Ok(frozen) => frozen,

@@ -40,7 +40,8 @@ impl Log {
     /// Logs that the barrier of an epoch was made and fetched; room was taken before.
     pub fn fetch(&mut self, epoch: u64)
         requires room { vec_len self.old.trace + 3 ≤ vec_capacity self.old.trace }
-        ensures trace { self.new.trace.items ≡ (self.old.trace.items ++ Mark.Barrier epoch ∷ []) ++ Mark.Fetch epoch ∷ [] }
+        ensures trace { self.new.trace.items
+            ≡ (self.old.trace.items ++ Mark.Barrier epoch ∷ []) ++ Mark.Fetch epoch ∷ [] }
         ensures acks { self.new.acks ≡ self.old.acks }
         ensures left { vec_len self.new.trace < vec_capacity self.new.trace }
     {
@@ -53,7 +54,8 @@ impl Log {
         requires room { vec_len self.old.trace < vec_capacity self.old.trace }
         requires ack_room { vec_len self.old.acks < vec_capacity self.old.acks }
         ensures trace { self.new.trace.items ≡ self.old.trace.items ++ Mark.Ack epoch ∷ [] }
-        ensures acks { self.new.acks.items ≡ self.old.acks.items ++ record { epoch = epoch; at = at } ∷ [] }
+        ensures acks { self.new.acks.items ≡ self.old.acks.items
+            ++ record { epoch = epoch; at = at } ∷ [] }
     {
         let _ = self.trace.push(Mark::Ack { epoch });
         let _ = self.acks.push(AckMark { epoch, at });

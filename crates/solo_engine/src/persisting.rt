@@ -27,11 +27,15 @@ pub fn persist<D: Disk>(
     requires ready { (g : Group) × IsPlanned (D.view disk).blocks g kept.now ready.now }
     requires room { vec_len log.old.trace < vec_capacity log.old.trace }
     requires ack_room { vec_len log.old.acks < vec_capacity log.old.acks }
-    ensures committed { IfOk result (λ d. (g : Group) → IsPlanned (D.view disk).blocks g kept.now ready.now
-        → IsCommitted kept.now g ready.now.plan.blocks ready.now.plan.body (D.view disk) (D.view d) log.old.trace.items log.new.trace.items log.old.acks.items log.new.acks.items) }
-    ensures uncommitted { IfErr result (λ bad. (g : Group) → IsPlanned (D.view disk).blocks g kept.now ready.now
+    ensures committed { IfOk result (λ d. (g : Group)
+        → IsPlanned (D.view disk).blocks g kept.now ready.now
+        → IsCommitted kept.now g ready.now.plan.blocks ready.now.plan.body (D.view disk) (D.view d)
+        log.old.trace.items log.new.trace.items log.old.acks.items log.new.acks.items) }
+    ensures uncommitted { IfErr result (λ bad. (g : Group)
+        → IsPlanned (D.view disk).blocks g kept.now ready.now
         → IsUncommitted kept.now g (D.view disk) (D.view bad.disk)) }
-    ensures unlogged { OnErr result ((log.new.trace.items ≡ log.old.trace.items) × (log.new.acks.items ≡ log.old.acks.items)) }
+    ensures unlogged { OnErr result ((log.new.trace.items ≡ log.old.trace.items)
+        × (log.new.acks.items ≡ log.old.acks.items)) }
 {
     let blocks = ready.plan.blocks.as_slice();
     match commit(disk, kept.target, kept.closes(), blocks, ready.plan.body) {

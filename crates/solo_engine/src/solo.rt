@@ -35,8 +35,10 @@ use std::alloc::Global;
 /// Whether no turn is left: no process runs that doesn't wait, or all turns are made.
 fn is_over(engine: &Engine, limits: Limits) -> bool
     requires { IsCheckpointed (group_in engine.now.group) }
-    ensures over { IsTrue result → (ready_in (group_in engine.now.group) ≡ []) ⊎ (limits.turns ≤ engine.now.made) }
-    ensures ready { result ≡ false → ready_in (group_in engine.now.group) ≡ engine.now.group.fixed.pid ∷ [] }
+    ensures over { IsTrue result → (ready_in (group_in engine.now.group) ≡ [])
+        ⊎ (limits.turns ≤ engine.now.made) }
+    ensures ready { result ≡ false → ready_in (group_in engine.now.group)
+        ≡ engine.now.group.fixed.pid ∷ [] }
     ensures made { result ≡ false → engine.now.made < limits.turns }
 {
     engine.made >= limits.turns || !is_ready(&engine.group)
@@ -71,8 +73,10 @@ fn release<O: Sink>(out: &mut O, from: &Out) -> Result<(), Failed>
 fn release_rest<O: Sink>(out: &mut O, group: &EngineGroup) -> Result<(), Failed>
     requires first { (group_in group.now).frame.out.from ≤ (O.view out.old).count }
     requires last { (O.view out.old).count ≤ last_position (group_in group.now).frame.out }
-    ensures ok { OnOk result (ReleasesRest (group_in group.now).frame.out (O.view out.old) (O.view out.new)) }
-    ensures err { OnErr result (ReleasesPart (group_in group.now).frame.out (O.view out.old) (O.view out.new)) }
+    ensures ok { OnOk result (ReleasesRest (group_in group.now).frame.out (O.view out.old)
+        (O.view out.new)) }
+    ensures err { OnErr result (ReleasesPart (group_in group.now).frame.out (O.view out.old)
+        (O.view out.new)) }
 {
     output_is_the_groups();
     release(out, &group.out)
@@ -103,14 +107,18 @@ fn run_to_end<D: Disk, O: Sink>(
     requires only { OnlyReading (D.view disk) }
     requires checkpointed { IsCheckpointed (group_in engine.group) }
     requires first { engine.made ≡ 0 }
-    requires kept { (kept : NewestCheckpoint) × Describes engine.kept kept × IsNewestAtStart (group_in engine.group) kept × ForSome (D.view disk).reading (λ r. HasNewest r kept) }
+    requires kept { (kept : NewestCheckpoint) × Describes engine.kept kept
+        × IsNewestAtStart (group_in engine.group) kept
+        × ForSome (D.view disk).reading (λ r. HasNewest r kept) }
     requires gates { ForSome (D.view disk).reading (λ r. DescribesGates engine.kept r) }
     requires epoch { engine.kept.epoch ≤ 2 ^ 62 }
     requires position { last_position (group_in engine.group).frame.out ≤ 2 ^ 62 }
     requires least { (group_in engine.group).frame.out.from ≤ (O.view out.old).count }
     requires most { (O.view out.old).count ≤ last_position (group_in engine.group).frame.out }
     requires unlogged { (log.old.trace.items ≡ []) × (log.old.acks.items ≡ []) }
-    ensures { IsSoloRun (run_of limits (group_in engine.group) engine.kept.epoch log.new.trace.items) (D.view disk).moment log.new.acks.items (D.view disk) (D.view result.0) (O.view out.old) (O.view out.new) result.1 }
+    ensures { IsSoloRun (run_of limits (group_in engine.group) engine.kept.epoch
+        log.new.trace.items) (D.view disk).moment log.new.acks.items (D.view disk) (D.view result.0)
+        (O.view out.old) (O.view out.new) result.1 }
 {
     run_laws(limits);
     let mut engine = engine;
@@ -162,7 +170,13 @@ fn engine_of(alloc: Global, origin: Origin) -> Result<Engine, NoMemory>
 }
 
 fn ended<D, O>(answer: RunAnswer, log: Log, disk: D, out: O) -> Run<D, O>
-    ensures { result ≡ record { answer = answer; trace = log.trace.items; acks = log.acks.items; disk = disk; out = out } }
+    ensures { result ≡ record {
+      answer = answer;
+      trace = log.trace.items;
+      acks = log.acks.items;
+      disk = disk;
+      out = out;
+    } }
 {
     let Log { trace, acks } = log;
     Run {
@@ -194,7 +208,9 @@ pub fn run_solo<D: Disk, O: Sink>(
     requires held { ForSome (D.view disk).reading (λ r. IsOriginOf r origin) }
     requires unworn { IsUnworn origin.epoch origin.parts.frame }
     requires count { IsWithin (O.view out) origin.parts.frame.out }
-    ensures run { IsSoloRun (run_of limits (group_of origin.parts) origin.epoch result.trace) (D.view disk).moment result.acks (D.view disk) (D.view result.disk) (O.view out) (O.view result.out) result.answer }
+    ensures run { IsSoloRun (run_of limits (group_of origin.parts) origin.epoch result.trace)
+        (D.view disk).moment result.acks (D.view disk) (D.view result.disk) (O.view out)
+        (O.view result.out) result.answer }
 {
     run_laws(limits);
     let mut out = out;

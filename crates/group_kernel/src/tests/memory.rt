@@ -9,7 +9,15 @@ use std::alloc::Global;
 use std::test::Fail;
 
 const fn private(start: u64, pages: u64, prot: u8, object: u64, first: u64) -> Mapping
-    ensures { result ≡ record { start = start; pages = pages; prot = prot; shared = false; object = object; first = first } }
+    ensures { result ≡ record {
+      start = start;
+      pages = pages;
+      prot = prot;
+      shared = false;
+      object =
+          object;
+      first = first;
+    } }
 {
     Mapping {
         start,

@@ -52,8 +52,12 @@ fn page(alloc: Global, program: &[u32]) -> Result<Vec<u8>, NoMemory>
 }
 
 fn memory(alloc: Global, program: &[u32]) -> Result<ProcessMemory, NoMemory>
-    ensures maps { IfOk result (λ memory. memory.maps ≡ record { start = 65536; pages = 1; prot = 7; shared = false; object = 0; first = 0 } ∷ []) }
-    ensures objects { IfOk result (λ memory. (page : List ℕ) × (memory_in memory.objects.items ≡ (0, page) ∷ []) × (length page ≡ 4096) × AreBytes page) }
+    ensures maps { IfOk result (λ memory. memory.maps
+        ≡ record { start = 65536; pages = 1; prot = 7; shared = false; object = 0; first = 0 }
+        ∷ []) }
+    ensures objects { IfOk result (λ memory. (page : List ℕ)
+        × (memory_in memory.objects.items ≡ (0, page) ∷ []) × (length page ≡ 4096)
+        × AreBytes page) }
 {
     let map = Mapping {
         start: 0x10000,
@@ -84,9 +88,13 @@ fn fixed(alloc: Global) -> Result<Fixed, NoMemory>
       pid = 1;
       brk_base = 69632;
       brk = 69632;
-      fds = (0, 0) ∷ (1, 1) ∷ [];
-      objects = record { number = 0; pages = 1 } ∷ [];
-      opens = record { number = 0; kind = OpenKind.Nothing; offset = 0; flags = 0 } ∷ record { number = 1; kind = OpenKind.Outside; offset = 0; flags = 0 } ∷ [];
+      fds = (0, 0) ∷ (1, 1)
+          ∷ [];
+      objects = record { number = 0; pages = 1 }
+          ∷ [];
+      opens = record { number = 0; kind = OpenKind.Nothing; offset = 0; flags = 0 }
+          ∷ record { number = 1; kind = OpenKind.Outside; offset = 0; flags = 0 }
+          ∷ [];
       next = record { pid = 2; object = 1; descr = 2; pipe = 0; pair = 0 };
     }) }
 {

@@ -28,7 +28,7 @@ returns-in-Ok-plan_in c =
       laid = out;
       refused = tt;
       avoids = λ kept covers. laid_avoids c.args.count c.args.used.now c.args.epoch c.args.frame.now pages plan.blocks plan.body c.requires.whole out kept covers;
-      plan = λ g same checkpointed are. laid_plan c.args.count c.args.used.now c.args.epoch c.args.frame.now pages plan.blocks plan.body c.requires.whole out c.requires.least c.requires.most g same checkpointed are c.ranges.epoch.fits;
+      plan = λ g same checkpointed are. laid_plan c.args.count c.args.used.now c.args.epoch c.args.frame.now pages plan.blocks plan.body c.requires.whole out c.written_is_held.ensures c.kept_is_held.ensures c.requires.least c.requires.most g same checkpointed are c.ranges.epoch.fits;
     }
 
 pub returns-in-Ok-None-clause-refused : goal.returns-in-Ok-None-clause-refused

@@ -25,7 +25,7 @@ returns-in-Err-read_layers-clause-outcome g c = λ image told.
     let told' = c.in-Ok.ensures.disk.reading ∙ told in
     let told'' = c.in-Ok-meta_of.ensures.disk.reading ∙ told' in
     let only = rw c.as_slice-2.ensures at (c.in-Err-read_layers.ensures.only image told'') in
-    rw c.refusal-in-Err-read_layers.ensures (layers_refused image _ size c.in-Some.slot c.in-Some.body opened c.in-Err-read_layers.refused _ _ _ (c.in-Ok-meta_of.ensures.found image told') (λ e. only (ap (λ r. Err r) e)))
+    rw c.refusal-in-Err-read_layers.ensures (layers_refused image _ size c.in-Some.slot c.in-Some.body opened c.one_spelled.ensures c.in-Err-read_layers.refused _ _ _ (c.in-Ok-meta_of.ensures.found image told') (λ e. only (ap (λ r. Err r) e)))
 
 pub returns-in-Err-read_layers-clause-cause : goal.returns-in-Err-read_layers-clause-cause
 returns-in-Err-read_layers-clause-cause g c =

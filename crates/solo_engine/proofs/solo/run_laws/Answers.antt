@@ -1,4 +1,3 @@
-use Rattle.std.proofs.Common.{arith}
 use Rattle.group_defs.specs.Valid.{OutValid}
 use Rattle.solo_engine.proofs.solo.run_laws.Goals as goal
 
@@ -6,7 +5,7 @@ pub returns : goal.returns
 unfolding OutValid
 returns c = λ start origin checkpointed few near.
     let limits = c.args._limits in
-    let out = checkpointed.valid.frame.out in
+    let out = checkpointed.valid.sound.frame.out.positions in
     record {
       every = c.requires.every.0;
       turns = c.requires.turns.1;

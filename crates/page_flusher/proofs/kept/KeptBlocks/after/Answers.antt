@@ -19,5 +19,7 @@ returns c =
       epoch = refl;
       used = c.loop-block.invariant ∙ ap numbers (take_all c.loop-block.block-index c.args.blocks.now c.loop-block-test.false);
       target = c.other_slot.ensures;
+      opened = opens.0;
+      stays = opens.1;
       gates = gates_after k k' c.args.blocks.now opens;
     }

@@ -7,7 +7,7 @@ use Rattle.lists.specs.Bytes.{AreBytes}
 use Rattle.group_defs.specs.Valid.{IsObject}
 use Rattle.mem_objects.specs.Pages.{Pages, PageNumbersRise}
 use Rattle.ckpt_records.specs.Parts.{memory_of, object_bytes}
-use Rattle.group_kernel.proofs.tests.parts.sample.Goals as goal
+use Rattle.group_kernel.proofs.tests.loading.sample.Goals as goal
 
 only : {X : Type 0} (old new : List X) (x : X) → old ≡ [] → new ≡ old ++ x ∷ [] → new ≡ x ∷ []
 only old new x none pushed = pushed ∙ ap (λ ys. ys ++ x ∷ []) none

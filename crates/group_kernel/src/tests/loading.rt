@@ -5,7 +5,7 @@ ghost use Rattle.group_defs.specs.Output.{last_position};
 ghost use Rattle.group_defs.specs.Valid.{IsObject};
 ghost use Rattle.ckpt_records.specs.Parts.{HasLayers, memory_of};
 
-use crate::parts::engine_group;
+use crate::loading::engine_group;
 use ckpt_records::Parts;
 use group_defs::{
     Frame, Mapping, Next, ObjectRec, Open, OpenKind, Out, Proc, ProcState, frame_valid,
@@ -86,7 +86,8 @@ fn sevens(alloc: Global) -> Result<PageBuf, NoMemory>
 // The object's second page is all 7, its first one isn't there.
 fn sample(alloc: Global) -> Result<Parts, NoMemory>
     ensures layers { IfOk result HasLayers }
-    ensures memory { IfOk result (λ p. AllZip IsObject p.frame.objects (memory_of p.frame.objects p.layers)) }
+    ensures memory { IfOk result (λ p. AllZip IsObject p.frame.objects
+        (memory_of p.frame.objects p.layers)) }
     ensures marked { IfOk result (λ p. p.frame.out.mark ≡ last_position p.frame.out) }
 {
     let mut slots = Vec::new(alloc);
@@ -127,7 +128,8 @@ fn parts_of_a_process_become_its_group(rt: HostRuntime) -> Result<(), Fail> {
 #[tactic(auto, unfolding(ckpt_records::specs::Parts::memory_of))]
 fn nothing_left(alloc: Global) -> Parts
     ensures layers { HasLayers result }
-    ensures memory { AllZip IsObject result.frame.objects (memory_of result.frame.objects result.layers) }
+    ensures memory { AllZip IsObject result.frame.objects
+        (memory_of result.frame.objects result.layers) }
     ensures marked { result.frame.out.mark ≡ last_position result.frame.out }
 {
     let next = Next {

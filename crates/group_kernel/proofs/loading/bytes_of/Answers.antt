@@ -1,7 +1,7 @@
 use Rattle.std.proofs.Common.{sym, ap, ◌∙◌, List, ◌++◌, ℕ}
 use Rattle.ckpt_records.specs.Parts.{page_in}
 use Rattle.group_kernel.proofs.PartsLaws.{object_more, object_none}
-use Rattle.group_kernel.proofs.parts.bytes_of.Goals as goal
+use Rattle.group_kernel.proofs.loading.bytes_of.Goals as goal
 
 pub loop-page-init : goal.loop-page-init
 loop-page-init c = c.in_ok-bytes.ensures.items ∙ sym (object_none c.args.layer.now)

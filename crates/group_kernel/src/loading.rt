@@ -69,7 +69,12 @@ fn with_process(
     memory: Vec<(u64, Vec<u8>)>,
 ) -> Result<EngineGroup, NoMemory>
     requires { TableFits (memory_in memory.items) process.maps }
-    ensures group { IfOk result (λ g. group_in g ≡ record { frame = frame_with (record process { parent = 0; state = Running } ∷ []) objects opens next out; memory = memory_in memory.items }) }
+    ensures group { IfOk result (λ g. group_in g
+        ≡ record {
+          frame = frame_with (record process { parent = 0; state = Running } ∷ []) objects
+              opens next out;
+          memory = memory_in memory.items;
+        }) }
     ensures out { IfOk result (λ g. g.out ≡ out) }
 {
     let Proc {

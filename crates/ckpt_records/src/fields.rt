@@ -413,8 +413,13 @@ impl Field for PagePlace {
 
 // The fields up to the registers.
 fn put_proc_front(out: &mut Vec<u8>, p: &Proc) -> Result<(), AllocError>
-    ensures bytes { OnOk result (out.new.items ≡ out.old.items ++ (codec.number p.now.pid ++ (codec.number p.now.parent ++ (spelling.state p.now.state ++ (codec.number p.now.pc ++ flat_map codec.number p.now.regs))))) }
-    ensures fits { OnOk result ((p.now.pid < 2 ^ 32) × ((p.now.parent < 2 ^ 32) × (fits.StateInRange p.now.state × (fits.Is64 p.now.pc × fits.RegsInRange p.now.regs)))) }
+    ensures bytes { OnOk result (out.new.items
+        ≡ out.old.items ++ (codec.number p.now.pid
+        ++ (codec.number p.now.parent ++ (spelling.state p.now.state
+        ++ (codec.number p.now.pc ++ flat_map codec.number p.now.regs))))) }
+    ensures fits { OnOk result ((p.now.pid < 2 ^ 32)
+        × ((p.now.parent < 2 ^ 32) × (fits.StateInRange p.now.state
+        × (fits.Is64 p.now.pc × fits.RegsInRange p.now.regs)))) }
 {
     put_u32(out, p.pid)?;
     put_u32(out, p.parent)?;

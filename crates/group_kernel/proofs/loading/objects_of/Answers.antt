@@ -1,7 +1,7 @@
 use Rattle.std.proofs.Common.{sym, ap, ◌∙◌}
 use Rattle.group_kernel.specs.Memory.{memory_in}
 use Rattle.group_kernel.proofs.PartsLaws.{memory_all, memory_next, memory_none}
-use Rattle.group_kernel.proofs.parts.objects_of.Goals as goal
+use Rattle.group_kernel.proofs.loading.objects_of.Goals as goal
 
 pub loop-i-init : goal.loop-i-init
 loop-i-init c = ap memory_in c.new-whole.ensures.items ∙ sym (memory_none c.args.objects.now c.args.layers.now)

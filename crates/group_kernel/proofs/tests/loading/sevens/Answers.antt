@@ -3,7 +3,7 @@ use Rattle.std.proofs.lemmas.List.{length-replicate}
 use Rattle.std.proofs.lemmas.List.Elements.{All-replicate}
 use Rattle.std.proofs.lemmas.Result.{IfOk-weaker}
 use Rattle.lists.specs.Bytes.{AreBytes}
-use Rattle.group_kernel.proofs.tests.parts.sevens.Goals as goal
+use Rattle.group_kernel.proofs.tests.loading.sevens.Goals as goal
 
 sevens : AreBytes (replicate 4096 7)
 unfolding AreBytes

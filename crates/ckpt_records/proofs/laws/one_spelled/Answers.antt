@@ -1,0 +1,5 @@
+use Rattle.ckpt_records.proofs.PartLaws.{spells_once}
+use Rattle.ckpt_records.proofs.laws.one_spelled.Goals as goal
+
+pub returns : goal.returns
+returns c = spells_once
