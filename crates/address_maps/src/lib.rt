@@ -12,8 +12,6 @@ pub mod laws;
 mod maps;
 mod refusals;
 mod search;
-#[cfg(test)]
-mod tests;
 
 pub use address_map::Map;
 pub use maps::{Mapping, Place};

@@ -15,7 +15,7 @@ use Rattle.ckpt_records.specs.Origin.{IsWithin}
 use Rattle.sls_core.specs.Safe.{HoldsOne, IsUnwritten, NeverFall, RunSoFar, Safe, last_epoch, last_group, run_of}
 use Rattle.sls_core.specs.declared.run.RunAnswer.{RunAnswer}
 use Rattle.sls_core.specs.declared.run.RunAnswer.TheVariants as answers
-use Rattle.aurora_top.specs.Answers.{WasRun}
+use Rattle.aurora_top.specs.Answers.{IsRunEnding}
 use Rattle.aurora_top.specs.Beginnings.{BeginsWith, CanBegin, SuitsDisk}
 use Rattle.aurora_top.specs.Ending.{end_for}
 use Rattle.aurora_top.specs.Opening.{IsOpenedAt}
@@ -116,9 +116,9 @@ module _ (run : RunSoFar) (before opened disk : DiskView) (out out' : SinkView) 
         released = ran.safe.stands.released;
         unfetched = unfetched;
       };
-      current = λ no_fault r told. ran.safe.current no_fault r (unwritten.reading ∙ told);
       ends = ends_as run before opened disk out out' answer unwritten.later ran.safe.ends;
     };
+    current = λ no_fault r told. ran.current no_fault r (unwritten.reading ∙ told);
     order = ran.order;
     whole = ran.whole;
   }
@@ -127,7 +127,7 @@ module _ (run : RunSoFar) (before opened disk : DiskView) (out out' : SinkView) 
 pub was_run : (words : List (List ℕ)) (before opened disk : DiskView) (files : FilesView) (out out' : SinkView) (at : ℕ) (command : Command (List ℕ)) (start : Group) (epoch : ℕ) (trace : List Mark) (acks : List AckMark) (answer : RunAnswer)
     → CanBegin words before files command start epoch → IsWithin out start.frame.out → IsOpenedAt at before opened → IsUnwritten before opened
     → IsSoloRun (run_of command.limits start epoch trace) opened.moment acks opened disk out out' answer
-    → WasRun words before disk files out out' at epoch trace acks (end_for answer (last_epoch epoch acks) (turns_in trace) out'.count)
+    → IsRunEnding words before disk files out out' at epoch trace acks (end_for answer (last_epoch epoch acks) (turns_in trace) out'.count)
 was_run words before opened disk files out out' at command start epoch trace acks answer begins within opening unwritten ran =
     let run : RunSoFar = run_of command.limits start epoch trace in
     record {

@@ -18,9 +18,9 @@ use Rattle.sls_core.specs.Answers.{EndsFor}
 use Rattle.sls_core.specs.declared.run.RunAnswer.{RunAnswer}
 use Rattle.sls_core.specs.declared.run.RunAnswer.TheVariants as answers
 use Rattle.aurora_top.specs.Ending.{end_for}
-use Rattle.aurora_top.specs.Answers.{WasRefused, WasRun}
+use Rattle.aurora_top.specs.Answers.{IsRefusal, IsRunEnding}
 use Rattle.aurora_top.specs.Beginnings.{AsksRestore, AsksRun, BeginsWith}
-use Rattle.aurora_top.specs.Complete.{IsGiven, IsOfRun, IsReady, IsUnhindered}
+use Rattle.aurora_top.specs.Complete.{IsGiven, IsOfRun, CanBeRestored, IsUnhindered}
 use Rattle.group_boot.specs.Manifest.{NamesImage}
 use Rattle.aurora_top.specs.Refusals.{Refused}
 use Rattle.command_words.specs.Words.{command_of_words}
@@ -71,7 +71,7 @@ no_usage answers.NoMemory epoch turns last is = cc
 
 module _ (words : List (List ℕ)) (disk disk' : DiskView) (files files' : FilesView) (out out' : SinkView) (at epoch : ℕ) (trace : List Mark) (acks : List AckMark) where
   abbrev HasAnswered : End → Type 0
-  HasAnswered e = WasRefused words disk disk' files files' out out' at epoch trace acks e ⊎ WasRun words disk disk' files out out' at epoch trace acks e
+  HasAnswered e = IsRefusal words disk disk' files files' out out' at epoch trace acks e ⊎ IsRunEnding words disk disk' files out out' at epoch trace acks e
 
   usage_spelled : HasAnswered Usage → command_of_words words ≡ None
   usage_spelled (inl refused) = refused.why
@@ -105,12 +105,12 @@ same_held : HoldOne → (r : List ℕ) (e f : ℕ) (g h : Group) → Holds r e g
 same_held one r e f g h a b = let same = one r e f g h a.pages b.pages a.metas b.metas a.slot b.slot a.at b.at in (same.0, same.1)
 
 -- the group of a ready disk is the one that begins
-ready_unworn : HoldOne → (r : List ℕ) (out : SinkView) (epoch : ℕ) (g : Group) → IsReady r out → Holds r epoch g → IsUnworn epoch g.frame
+ready_unworn : HoldOne → (r : List ℕ) (out : SinkView) (epoch : ℕ) (g : Group) → CanBeRestored r out → Holds r epoch g → IsUnworn epoch g.frame
 ready_unworn one r out epoch g ready holds =
     let same = same_held one r ready.epoch epoch ready.start g ready.held holds in
     subst (λ (n : ℕ). IsUnworn n g.frame) same.0 (subst (λ (h : Group). IsUnworn ready.epoch h.frame) same.1 ready.unworn)
 
-ready_within : HoldOne → (r : List ℕ) (out : SinkView) (epoch : ℕ) (g : Group) → IsReady r out → Holds r epoch g → IsWithin out g.frame.out
+ready_within : HoldOne → (r : List ℕ) (out : SinkView) (epoch : ℕ) (g : Group) → CanBeRestored r out → Holds r epoch g → IsWithin out g.frame.out
 ready_within one r out epoch g ready holds =
     let same = same_held one r ready.epoch epoch ready.start g ready.held holds in
     subst (λ (h : Group). IsWithin out h.frame.out) same.1 ready.within
@@ -119,7 +119,7 @@ given_within : HoldOne → (beginning : Beginning (List ℕ)) (disk : DiskView) 
 given_within one (Manifest manifest) disk files out start epoch given begins =
     subst (λ (g : Group). IsWithin out g.frame.out) (sym begins.2) (omega (arith, given.2), omega (arith, given.2))
 given_within one Checkpoint disk files out start epoch given begins =
-    let is = told disk.reading (λ r. IsReady r out) given in
+    let is = told disk.reading (λ r. CanBeRestored r out) given in
     ready_within one is.0 out epoch start is.2 (begins.0 is.0 is.1)
 
 module _ (words : List (List ℕ)) (disk disk' : DiskView) (files files' : FilesView) (out out' : SinkView) (one : HoldOne) (u : IsUnhindered words disk disk' files files' out out') where
@@ -132,8 +132,8 @@ module _ (words : List (List ℕ)) (disk disk' : DiskView) (files files' : Files
   given_new : (manifest : List ℕ) → AsksRun words disk.blocks manifest → IsGiven (Manifest manifest) disk files out
   given_new manifest asks = given_for asks.0 (Manifest manifest) asks.1.spelled asks.2
 
-  ready : AsksRestore words disk.blocks → (r : List ℕ) × (disk.reading ≡ Some r) × IsReady r out
-  ready asks = told disk.reading (λ r. IsReady r out) (given_for asks.0 Checkpoint asks.1.spelled asks.2)
+  ready : AsksRestore words disk.blocks → (r : List ℕ) × (disk.reading ≡ Some r) × CanBeRestored r out
+  ready asks = told disk.reading (λ r. CanBeRestored r out) (given_for asks.0 Checkpoint asks.1.spelled asks.2)
 
   refused_of_run : (e : End) → Refused words disk disk' files files' out e → IsOfRun e
   refused_of_run Usage why = absurd (spells_none words u.command u.asks.spelled why)
@@ -168,6 +168,6 @@ module _ (words : List (List ℕ)) (disk disk' : DiskView) (files files' : Files
   ended_of_run run (answers.DiskFull need free) epoch turns last ends = tt
   ended_of_run run answers.NoMemory epoch turns last ends = tt
 
-  pub complete_law : (at epoch : ℕ) (trace : List Mark) (acks : List AckMark) (e : End) → WasRefused words disk disk' files files' out out' at epoch trace acks e ⊎ WasRun words disk disk' files out out' at epoch trace acks e → IsOfRun e
+  pub complete_law : (at epoch : ℕ) (trace : List Mark) (acks : List AckMark) (e : End) → IsRefusal words disk disk' files files' out out' at epoch trace acks e ⊎ IsRunEnding words disk disk' files out out' at epoch trace acks e → IsOfRun e
   complete_law at epoch trace acks e (inl refused) = refused_of_run e refused.why
   complete_law at epoch trace acks e (inr run) = subst IsOfRun (sym run.end_is) (ended_of_run _ run.answer _ _ _ run.run.safe.ends)

@@ -19,7 +19,7 @@ use Rattle.command_words.specs.declared.words.Command.{Command}
 use Rattle.command_words.specs.declared.end.End.{End}
 
 -- The command was refused before its run: nothing was logged, written or put.
-pub record WasRefused (words : List (List ℕ)) (disk disk' : DiskView) (files files' : FilesView) (out out' : SinkView) (opened_at origin_epoch : ℕ) (trace : List Mark) (acks : List AckMark) (end : End) : Type 0 where
+pub record IsRefusal (words : List (List ℕ)) (disk disk' : DiskView) (files files' : FilesView) (out out' : SinkView) (opened_at origin_epoch : ℕ) (trace : List Mark) (acks : List AckMark) (end : End) : Type 0 where
   pub why : Refused words disk disk' files files' out end
   pub opened : IsOpening end opened_at disk disk'
   pub unwritten : IsUnwritten disk disk'
@@ -29,7 +29,7 @@ pub record WasRefused (words : List (List ℕ)) (disk disk' : DiskView) (files f
   pub unacked : acks ≡ []
 
 -- The command was run: from its first group or from the group that the disk held, within its limits.
-pub record WasRun (words : List (List ℕ)) (disk disk' : DiskView) (files : FilesView) (out out' : SinkView)
+pub record IsRunEnding (words : List (List ℕ)) (disk disk' : DiskView) (files : FilesView) (out out' : SinkView)
     (opened_at origin_epoch : ℕ) (trace : List Mark) (acks : List AckMark) (end : End) : Type 0 where
   pub command : Command (List ℕ)
   pub start : Group

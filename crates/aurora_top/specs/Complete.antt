@@ -17,18 +17,18 @@ use Rattle.command_words.specs.declared.end.End.{End}
 use Rattle.command_words.specs.declared.end.End.TheVariants.{Done, Stuck, Spent, DiskFull, NoMemory}
 
 -- The image holds a group that isn't worn, and the output's count is within its bounds.
-pub record IsReady (image : List ℕ) (out : SinkView) : Type 0 where
+pub record CanBeRestored (image : List ℕ) (out : SinkView) : Type 0 where
   pub epoch : ℕ
   pub start : Group
   pub held : Holds image epoch start
   pub unworn : IsUnworn epoch start.frame
   pub within : IsWithin out start.frame.out
 
--- What a command needs is told: for a manifest no open slot, its image and an empty output; else a group that is ready.
+-- What a command needs is told: for a manifest no open slot, its image and an empty output; else a group that can be restored.
 abbrev pub IsGiven : Beginning (List ℕ) → DiskView → FilesView → SinkView → Type 0
 IsGiven (Manifest manifest) disk files out =
     MatchOption disk.reading ⊥ (λ r. newest r ≡ None) × MatchOption files.contents ⊥ (λ contents. (image : List ℕ) × NamesImage contents manifest image) × (out.count ≡ 0)
-IsGiven Checkpoint disk files out = MatchOption disk.reading ⊥ (λ r. IsReady r out)
+IsGiven Checkpoint disk files out = MatchOption disk.reading ⊥ (λ r. CanBeRestored r out)
 
 -- ... and no device's count of faults rose
 pub record IsUnhindered (words : List (List ℕ)) (disk disk' : DiskView) (files files' : FilesView) (out out' : SinkView) : Type 0 where

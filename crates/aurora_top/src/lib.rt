@@ -13,6 +13,3 @@ mod starting;
 
 pub use ending::Ending;
 pub use solo::aurora_solo;
-
-#[cfg(test)]
-mod tests;

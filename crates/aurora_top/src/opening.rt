@@ -49,7 +49,8 @@ pub fn open<'a, D: Disk>(words: &'a [Word], disk: &mut D) -> Result<(Command<&'a
 /// Reads both slots, of which none may be open: their gate bytes.
 pub fn unused_gates<D: Disk>(disk: &mut D) -> Result<[u8; 2], OpenRefused>
     requires { HasSize (D.view disk.old).blocks }
-    ensures ok { IfOk result (λ gates. ForSome (D.view disk.old).reading (λ r. (newest r ≡ None) × (gates ≡ gates_of r))) }
+    ensures ok { IfOk result (λ gates. ForSome (D.view disk.old).reading
+        (λ r. (newest r ≡ None) × (gates ≡ gates_of r))) }
     ensures err { IfErr result (λ e. RefusedByDisk (D.view disk.old) (D.view disk.new) e) }
     ensures reads { OnlyReads (D.view disk.old) (D.view disk.new) }
 {

@@ -2,7 +2,7 @@
 ghost use Rattle.std.specs.Prelude.{◌≡◌, ◌≤◌, ◌⊎◌, ◌↔◌, [], None};
 ghost use Rattle.run_defs.specs.Trace.{turns_in};
 ghost use Rattle.sls_core.specs.Safe.{last_epoch};
-ghost use Rattle.aurora_top.specs.Answers.{WasRefused, WasRun};
+ghost use Rattle.aurora_top.specs.Answers.{IsRefusal, IsRunEnding};
 ghost use Rattle.aurora_top.specs.Complete.{IsOfRun, IsUnhindered};
 ghost use Rattle.aurora_top.specs.Ending.{end_for as end_named};
 ghost use Rattle.command_words.specs.Say.{HasSaid};
@@ -42,7 +42,8 @@ fn last_acked(origin_epoch: u64, acks: &[AckMark]) -> u64
 
 /// The end of a run from an origin of this epoch.
 fn end_of<D, O: Sink>(origin_epoch: u64, run: &Run<D, O>) -> End
-    ensures { result ≡ end_named run.now.answer (last_epoch origin_epoch run.now.acks) (turns_in run.now.trace) (O.view run.now.out).count }
+    ensures { result ≡ end_named run.now.answer (last_epoch origin_epoch run.now.acks)
+        (turns_in run.now.trace) (O.view run.now.out).count }
 {
     let epoch = last_acked(origin_epoch, run.acks.as_slice());
     let turns = count_turns(run.trace.as_slice());
@@ -60,7 +61,20 @@ fn refuse<F: Files, D: Disk, O: Sink, S: Sink>(
     say: S,
 ) -> Ending<F, D, O, S>
     ensures say { HasSaid result.end result.status (S.view say) (S.view result.say) }
-    ensures told { result ≡ record { status = result.status; end = end; origin_epoch = 0; opened_at = opened_at; trace = []; acks = []; files = files; disk = disk; out = out; say = result.say } }
+    ensures told { result ≡ record {
+      status = result.status;
+      end = end;
+      origin_epoch = 0;
+      opened_at
+          = opened_at;
+      trace = [];
+      acks = [];
+      files = files;
+      disk = disk;
+      out = out;
+      say =
+          result.say;
+    } }
 {
     let mut say = say;
     let status = say_line(&end, &mut say);
@@ -87,7 +101,20 @@ fn finish<F: Files, D: Disk, O: Sink, S: Sink>(
     say: S,
 ) -> Ending<F, D, O, S>
     ensures say { HasSaid result.end result.status (S.view say) (S.view result.say) }
-    ensures told { result ≡ record { status = result.status; end = end_named run.answer (last_epoch origin_epoch run.acks) (turns_in run.trace) (O.view run.out).count; origin_epoch = origin_epoch; opened_at = opened_at; trace = run.trace; acks = run.acks; files = files; disk = run.disk; out = run.out; say = result.say } }
+    ensures told { result ≡ record {
+      status = result.status;
+      end = end_named run.answer
+          (last_epoch origin_epoch run.acks) (turns_in run.trace) (O.view run.out).count;
+      origin_epoch
+          = origin_epoch;
+      opened_at = opened_at;
+      trace = run.trace;
+      acks = run.acks;
+      files = files;
+      disk = run.disk;
+      out = run.out;
+      say = result.say;
+    } }
 {
     let mut say = say;
     let end = end_of(origin_epoch, &run);
@@ -123,10 +150,15 @@ fn run_command<F: Files, D: Disk, O: Sink, S: Sink>(
     say: S,
 ) -> Ending<F, D, O, S>
     ensures say { HasSaid result.end result.status (S.view say) (S.view result.say) }
-    ensures answer { WasRefused words.now (D.view disk) (D.view result.disk) (F.view files) (F.view result.files) (O.view out) (O.view result.out) result.opened_at result.origin_epoch result.trace result.acks result.end
-        ⊎ WasRun words.now (D.view disk) (D.view result.disk) (F.view files) (O.view out) (O.view result.out) result.opened_at result.origin_epoch result.trace result.acks result.end }
-    ensures files { ((F.view result.files).contents ≡ (F.view files).contents) × ((F.view files).faults ≤ (F.view result.files).faults) }
-    ensures opened { ((D.view disk).moment ≤ result.opened_at) × (result.opened_at ≤ (D.view result.disk).moment) }
+    ensures answer { IsRefusal words.now (D.view disk) (D.view result.disk) (F.view files)
+        (F.view result.files) (O.view out) (O.view result.out) result.opened_at result.origin_epoch
+        result.trace result.acks result.end
+        ⊎ IsRunEnding words.now (D.view disk) (D.view result.disk) (F.view files) (O.view out)
+        (O.view result.out) result.opened_at result.origin_epoch result.trace result.acks result.end }
+    ensures files { ((F.view result.files).contents ≡ (F.view files).contents)
+        × ((F.view files).faults ≤ (F.view result.files).faults) }
+    ensures opened { ((D.view disk).moment ≤ result.opened_at)
+        × (result.opened_at ≤ (D.view result.disk).moment) }
 {
     let mut files = files;
     let mut disk = disk;
@@ -161,14 +193,20 @@ pub fn aurora_solo<F: Files, D: Disk, O: Sink, S: Sink>(
     ensures say { HasSaid result.end result.status (S.view say) (S.view result.say) }
     ensures usage { (result.end ≡ End.Usage) ↔ (command_of_words words.now ≡ None) }
     // Either the command was refused, and nothing was logged, written or put; or it was run.
-    ensures answer { WasRefused words.now (D.view disk) (D.view result.disk) (F.view files) (F.view result.files) (O.view out) (O.view result.out) result.opened_at result.origin_epoch result.trace result.acks result.end
-        ⊎ WasRun words.now (D.view disk) (D.view result.disk) (F.view files) (O.view out) (O.view result.out) result.opened_at result.origin_epoch result.trace result.acks result.end }
+    ensures answer { IsRefusal words.now (D.view disk) (D.view result.disk) (F.view files)
+        (F.view result.files) (O.view out) (O.view result.out) result.opened_at result.origin_epoch
+        result.trace result.acks result.end
+        ⊎ IsRunEnding words.now (D.view disk) (D.view result.disk) (F.view files) (O.view out)
+        (O.view result.out) result.opened_at result.origin_epoch result.trace result.acks result.end }
     // The files hold what they held.
-    ensures files { ((F.view result.files).contents ≡ (F.view files).contents) × ((F.view files).faults ≤ (F.view result.files).faults) }
+    ensures files { ((F.view result.files).contents ≡ (F.view files).contents)
+        × ((F.view files).faults ≤ (F.view result.files).faults) }
     // The moment of the opening, for a refused command too, lies between the call's and the answer's.
-    ensures opened { ((D.view disk).moment ≤ result.opened_at) × (result.opened_at ≤ (D.view result.disk).moment) }
+    ensures opened { ((D.view disk).moment ≤ result.opened_at)
+        × (result.opened_at ≤ (D.view result.disk).moment) }
     // Where the command has what it needs and no device fails, the run ends by itself, or for want of blocks or memory.
-    ensures complete { IsUnhindered words.now (D.view disk) (D.view result.disk) (F.view files) (F.view result.files) (O.view out) (O.view result.out) → IsOfRun result.end }
+    ensures complete { IsUnhindered words.now (D.view disk) (D.view result.disk) (F.view files)
+        (F.view result.files) (O.view out) (O.view result.out) → IsOfRun result.end }
 {
     // an image holds one group
     one_held();

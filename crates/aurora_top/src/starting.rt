@@ -28,9 +28,12 @@ fn new_origin<F: Files, D: Disk>(
     disk: &mut D,
 ) -> Result<Origin, End>
     requires { HasSize (D.view disk.old).blocks }
-    ensures ok { IfOk result (λ o. IsBegun (Manifest manifest.now) (D.view disk.old) (F.view files.old) o) }
-    ensures err { IfErr result (λ e. (words : List (List ℕ)) (sink : SinkView) → AsksRun words (D.view disk.old).blocks manifest.now
-        → Refused words (D.view disk.old) (D.view disk.new) (F.view files.old) (F.view files.new) sink e) }
+    ensures ok { IfOk result (λ o. IsBegun (Manifest manifest.now) (D.view disk.old)
+        (F.view files.old) o) }
+    ensures err { IfErr result (λ e. (words : List (List ℕ)) (sink : SinkView)
+        → AsksRun words (D.view disk.old).blocks manifest.now
+        → Refused words (D.view disk.old) (D.view disk.new) (F.view files.old) (F.view files.new)
+        sink e) }
     ensures reads { OnlyReads (D.view disk.old) (D.view disk.new) }
     ensures contents { (F.view files.new).contents ≡ (F.view files.old).contents }
     ensures later { (F.view files.old).faults ≤ (F.view files.new).faults }
@@ -52,8 +55,10 @@ fn new_origin<F: Files, D: Disk>(
 /// The origin of the checkpoint that the disk holds, where it leaves room for a run.
 fn held_origin<D: Disk>(alloc: Global, disk: &mut D) -> Result<Origin, End>
     requires { HasSize (D.view disk.old).blocks }
-    ensures ok { IfOk result (λ o. (files : FilesView) → IsBegun Checkpoint (D.view disk.old) files o) }
-    ensures err { IfErr result (λ e. (words : List (List ℕ)) (files files' : FilesView) (sink : SinkView) → AsksRestore words (D.view disk.old).blocks
+    ensures ok { IfOk result (λ o. (files : FilesView)
+        → IsBegun Checkpoint (D.view disk.old) files o) }
+    ensures err { IfErr result (λ e. (words : List (List ℕ)) (files files' : FilesView)
+        (sink : SinkView) → AsksRestore words (D.view disk.old).blocks
         → Refused words (D.view disk.old) (D.view disk.new) files files' sink e) }
     ensures reads { OnlyReads (D.view disk.old) (D.view disk.new) }
 {
@@ -77,9 +82,13 @@ fn first_origin<F: Files, D: Disk>(
     disk: &mut D,
 ) -> Result<Origin, End>
     requires { HasSize (D.view disk.old).blocks }
-    ensures ok { IfOk result (λ o. IsBegun (named_beginning beginning.entry) (D.view disk.old) (F.view files.old) o) }
-    ensures err { IfErr result (λ e. (words : List (List ℕ)) (command : Command (List ℕ)) (sink : SinkView) → Asks words (D.view disk.old).blocks command → command.beginning ≡ named_beginning beginning.entry
-        → Refused words (D.view disk.old) (D.view disk.new) (F.view files.old) (F.view files.new) sink e) }
+    ensures ok { IfOk result (λ o. IsBegun (named_beginning beginning.entry) (D.view disk.old)
+        (F.view files.old) o) }
+    ensures err { IfErr result (λ e. (words : List (List ℕ)) (command : Command (List ℕ))
+        (sink : SinkView) → Asks words (D.view disk.old).blocks command
+        → command.beginning ≡ named_beginning beginning.entry
+        → Refused words (D.view disk.old) (D.view disk.new) (F.view files.old) (F.view files.new)
+        sink e) }
     ensures reads { OnlyReads (D.view disk.old) (D.view disk.new) }
     ensures contents { (F.view files.new).contents ≡ (F.view files.old).contents }
     ensures later { (F.view files.old).faults ≤ (F.view files.new).faults }
@@ -99,10 +108,14 @@ pub fn begin<F: Files, D: Disk, O: Sink>(
     out: &O,
 ) -> Result<Origin, End>
     requires { HasSize (D.view disk.old).blocks }
-    ensures ok { IfOk result (λ o. IsBegun (named_beginning beginning.entry) (D.view disk.old) (F.view files.old) o) }
+    ensures ok { IfOk result (λ o. IsBegun (named_beginning beginning.entry) (D.view disk.old)
+        (F.view files.old) o) }
     ensures within { IfOk result (λ o. IsWithin (O.view out.now) o.parts.frame.out) }
-    ensures err { IfErr result (λ e. (words : List (List ℕ)) (command : Command (List ℕ)) → Asks words (D.view disk.old).blocks command → command.beginning ≡ named_beginning beginning.entry
-        → Refused words (D.view disk.old) (D.view disk.new) (F.view files.old) (F.view files.new) (O.view out.now) e) }
+    ensures err { IfErr result (λ e. (words : List (List ℕ)) (command : Command (List ℕ))
+        → Asks words (D.view disk.old).blocks command
+        → command.beginning ≡ named_beginning beginning.entry
+        → Refused words (D.view disk.old) (D.view disk.new) (F.view files.old) (F.view files.new)
+        (O.view out.now) e) }
     ensures reads { OnlyReads (D.view disk.old) (D.view disk.new) }
     ensures contents { (F.view files.new).contents ≡ (F.view files.old).contents }
     ensures later { (F.view files.old).faults ≤ (F.view files.new).faults }

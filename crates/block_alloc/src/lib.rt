@@ -7,6 +7,3 @@
 mod blocks;
 
 pub use blocks::{Blocks, rebuild};
-
-#[cfg(test)]
-mod tests;

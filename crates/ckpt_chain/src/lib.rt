@@ -9,8 +9,6 @@ mod laws;
 mod lay;
 mod slot;
 mod stream;
-#[cfg(test)]
-mod tests;
 
 pub use laws::kept_is_read;
 pub use lay::{PageBytes, laid_is_read, lay_stream};

@@ -83,7 +83,8 @@ pub fn read_stream<D: Disk>(
     ensures always { IfOk result
         (λ s. (1 ≤ length s.blocks) × InDisk (D.view disk.old).blocks s.blocks) }
     ensures bytes { (image : List ℕ) → (D.view disk.old).reading ≡ Some image
-        → IsReadAs (λ s. (s.bytes, s.blocks)) result (stream_at image (D.view disk.old).blocks body) }
+        → IsReadAs (λ s. (s.bytes, s.blocks)) result
+        (stream_at image (D.view disk.old).blocks body) }
     ensures disk { OnlyReads (D.view disk.old) (D.view disk.new) }
     ensures cause { FaultRose (D.view disk.old).faults (D.view disk.new).faults result }
 {
@@ -111,7 +112,8 @@ fn walk<D: Disk>(
     ensures always { IfOk result
         (λ s. (length s.blocks.items ≡ links) × InDisk (D.view disk.old).blocks s.blocks.items) }
     ensures bytes { (image : List ℕ) → (D.view disk.old).reading ≡ Some image
-        → IsReadAs (λ s. (s.bytes.items, s.blocks.items)) result (whole_at image (D.view disk.old).blocks links first) }
+        → IsReadAs (λ s. (s.bytes.items, s.blocks.items)) result
+        (whole_at image (D.view disk.old).blocks links first) }
     ensures disk { OnlyReads (D.view disk.old) (D.view disk.new) }
     ensures cause { FaultRose (D.view disk.old).faults (D.view disk.new).faults result }
 {

@@ -90,7 +90,9 @@ fn with_part<'a>(said: Said<'a>, part: Part<'a>) -> Option<Said<'a>>
 
 // What the words begin with, and the words behind that.
 fn first_part<'a>(word: &'a Word, after: &'a [Word]) -> Option<(Part<'a>, &'a [Word])>
-    ensures reads { MatchOption result (pieces_of (word.now ∷ after.now) ≡ None) (λ r. pieces_of (word.now ∷ after.now) ≡ followed_by (Some (piece_of r.0)) (pieces_of r.1.now)) }
+    ensures reads { MatchOption result (pieces_of (word.now ∷ after.now) ≡ None)
+        (λ r. pieces_of (word.now ∷ after.now)
+        ≡ followed_by (Some (piece_of r.0)) (pieces_of r.1.now)) }
     ensures fewer { MatchOption result (Unit {0}) (λ r. length r.1.now ≤ length after.now) }
 {
     if is_name(word) {
@@ -110,7 +112,8 @@ fn first_part<'a>(word: &'a Word, after: &'a [Word]) -> Option<(Part<'a>, &'a [W
 
 /// What the words say, each option at most once and at most three names.
 pub fn said_by(words: &[Word]) -> Option<Said<'_>>
-    ensures { MatchOption result ((first : List ℕ) → command_of_words (first ∷ words.now) ≡ None) (λ said. (pieces : List Piece) × (pieces_of words.now ≡ Some pieces) × SumsUp said pieces) }
+    ensures { MatchOption result ((first : List ℕ) → command_of_words (first ∷ words.now) ≡ None)
+        (λ said. (pieces : List Piece) × (pieces_of words.now ≡ Some pieces) × SumsUp said pieces) }
 {
     let mut said = Said {
         names: Names::Empty,

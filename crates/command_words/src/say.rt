@@ -29,7 +29,8 @@ fn put_run<S: Sink>(
     turns: u64,
     output: u64,
 ) -> Result<(), Failed>
-    ensures { HasPut (run_line text.now epoch turns output) result (S.view say.old) (S.view say.new) }
+    ensures { HasPut (run_line text.now epoch turns output) result (S.view say.old)
+        (S.view say.new) }
 {
     put_line(
         say,

@@ -44,7 +44,8 @@ pub struct Command<N> {
 
 // The command of this first word, where as many names stand behind it as it has.
 fn command_for<'a>(first: &str, said: Said<'a>) -> Option<Command<&'a str>>
-    ensures { option_map named_command result ≡ command_with first.now (names_in said.entry.names) (limits_said said.entry) }
+    ensures { option_map named_command result
+        ≡ command_with first.now (names_in said.entry.names) (limits_said said.entry) }
 {
     let limits = limits_of(said);
     match said.names {

@@ -2,4 +2,3 @@ pub mod Stages
 mod Told
 pub mod Parts
 pub mod During
-pub mod TellingLaws

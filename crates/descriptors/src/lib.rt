@@ -10,8 +10,6 @@ mod description_table;
 mod descriptor_table;
 mod opens;
 mod refusals;
-#[cfg(test)]
-mod tests;
 
 pub use counted::Counted;
 pub use description_table::Opens;

@@ -11,8 +11,6 @@ mod files;
 mod gate;
 pub mod mem;
 mod sink;
-#[cfg(test)]
-mod tests;
 mod word;
 
 pub use disk::{Disk, Failed};

@@ -11,8 +11,6 @@ mod named;
 mod named_files;
 mod refusals;
 mod search;
-#[cfg(test)]
-mod tests;
 
 pub use file_table::FileTable;
 pub use named_files::{FileRec, FileRef};

@@ -7,8 +7,6 @@
 mod layer;
 mod page_buf;
 mod slots;
-#[cfg(test)]
-mod tests;
 
 pub use layer::Layer;
 pub use page_buf::{PageBuf, is_zero};

@@ -13,8 +13,6 @@ mod pairs;
 mod pipes;
 mod queues;
 mod streams;
-#[cfg(test)]
-mod tests;
 
 pub use answers::{Pull, Push, Sending, TableRefused};
 pub use pairs::PairTable;

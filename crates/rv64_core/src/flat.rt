@@ -33,7 +33,8 @@ impl Flat {
     /// The byte at an address, where its page has the right.
     fn byte(&self, right: u8, address: u64) -> Option<u8>
         requires { 0 < right }
-        ensures value { result ≡ byte_with right (flat_cells self.now.rights.items self.now.bytes.items) address }
+        ensures value { result ≡ byte_with right
+            (flat_cells self.now.rights.items self.now.bytes.items) address }
     {
         if address < self.bytes.len() as u64 && self.rights_at(address) / right % 2 == 1 {
             Some(self.bytes[address as usize])
@@ -46,7 +47,8 @@ impl Flat {
     fn number(&self, right: u8, address: u64, n: u8) -> Option<u64>
         requires right { 0 < right }
         requires size { n ≤ 8 }
-        ensures value { result ≡ option_map number_of (bytes_with right (flat_cells self.now.rights.items self.now.bytes.items) address n) }
+        ensures value { result ≡ option_map number_of
+            (bytes_with right (flat_cells self.now.rights.items self.now.bytes.items) address n) }
         ensures range { IfSome result (λ v. v < 2 ^ (8 * n)) }
         ensures within { IfSome result (λ v. 0 < n → address + n ≤ length self.now.bytes.items) }
     {
@@ -65,7 +67,8 @@ impl Flat {
     /// Whether n bytes can be stored at an address.
     pub fn can_store(&self, address: u64, n: u8) -> bool
         requires { n ≤ 8 }
-        ensures able { result ≡ can_write (flat_cells self.now.rights.items self.now.bytes.items) address n }
+        ensures able { result ≡ can_write (flat_cells self.now.rights.items self.now.bytes.items)
+            address n }
         ensures within { IsTrue result → 0 < n → address + n ≤ length self.now.bytes.items }
     {
         self.number(2, address, n).is_some()
@@ -75,7 +78,8 @@ impl Flat {
 /// Puts bytes from an address on.
 fn put(bytes: &mut [u8], address: u64, new: &[u8])
     requires { address + length new.now ≤ length bytes.old }
-    ensures { (rights : List ℕ) → flat_cells rights bytes.new ≡ stored (flat_cells rights bytes.old) address new.now }
+    ensures { (rights : List ℕ) → flat_cells rights bytes.new
+        ≡ stored (flat_cells rights bytes.old) address new.now }
 {
     match new {
         [] => {}

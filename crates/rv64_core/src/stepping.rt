@@ -12,8 +12,10 @@ use rv64_isa::{Act, Regs, act_at, loaded_value};
 
 /// One step of a process on its private memory, where the step is local.
 pub fn local_step<S: Space>(regs: &mut Regs, space: &mut S) -> Local
-    ensures leaves { Leaves result (instruction (S.cells space.old) regs.old) regs.old (S.cells space.old) regs.new (S.cells space.new) }
-    ensures lands { Lands S.landed result (instruction (S.cells space.old) regs.old) (S.table space.old) (S.table space.new) }
+    ensures leaves { Leaves result (instruction (S.cells space.old) regs.old) regs.old
+        (S.cells space.old) regs.new (S.cells space.new) }
+    ensures lands { Lands S.landed result (instruction (S.cells space.old) regs.old)
+        (S.table space.old) (S.table space.new) }
 {
     match space.fetch(regs.pc) {
         None => Local::Shared,
@@ -24,8 +26,10 @@ pub fn local_step<S: Space>(regs: &mut Regs, space: &mut S) -> Local
 /// Does what an instruction asks for, where that is local.
 fn perform<S: Space>(regs: &mut Regs, space: &mut S, act: Act) -> Local
     requires { ActFits act }
-    ensures leaves { Leaves result (effect (S.cells space.old) regs.old act) regs.old (S.cells space.old) regs.new (S.cells space.new) }
-    ensures lands { Lands S.landed result (effect (S.cells space.old) regs.old act) (S.table space.old) (S.table space.new) }
+    ensures leaves { Leaves result (effect (S.cells space.old) regs.old act) regs.old
+        (S.cells space.old) regs.new (S.cells space.new) }
+    ensures lands { Lands S.landed result (effect (S.cells space.old) regs.old act)
+        (S.table space.old) (S.table space.new) }
 {
     match act {
         Act::Sets { rd, value } => set(regs, rd, value),
@@ -44,7 +48,8 @@ fn perform<S: Space>(regs: &mut Regs, space: &mut S, act: Act) -> Local
 
 fn set(regs: &mut Regs, rd: u8, value: u64) -> Local
     requires { rd < 32 }
-    ensures leaves { (cells : Cells) → Leaves result (effect cells regs.old (Act.Sets rd value)) regs.old cells regs.new cells }
+    ensures leaves { (cells : Cells) → Leaves result (effect cells regs.old (Act.Sets rd value))
+        regs.old cells regs.new cells }
     ensures stores { (cells : Cells) → StoresNothing (effect cells regs.old (Act.Sets rd value)) }
 {
     regs.put(rd, value);
@@ -54,7 +59,8 @@ fn set(regs: &mut Regs, rd: u8, value: u64) -> Local
 
 fn jump(regs: &mut Regs, rd: u8, target: u64) -> Local
     requires { rd < 32 }
-    ensures leaves { (cells : Cells) → Leaves result (effect cells regs.old (Act.Jumps rd target)) regs.old cells regs.new cells }
+    ensures leaves { (cells : Cells) → Leaves result (effect cells regs.old (Act.Jumps rd target))
+        regs.old cells regs.new cells }
     ensures stores { (cells : Cells) → StoresNothing (effect cells regs.old (Act.Jumps rd target)) }
 {
     if !target.is_multiple_of(4) {
@@ -67,8 +73,10 @@ fn jump(regs: &mut Regs, rd: u8, target: u64) -> Local
 fn load<S: Space>(regs: &mut Regs, space: &S, rd: u8, address: u64, n: u8, signed: bool) -> Local
     requires register { rd < 32 }
     requires size { IsSize n }
-    ensures leaves { Leaves result (effect (S.cells space.now) regs.old (Act.Loads rd address n signed)) regs.old (S.cells space.now) regs.new (S.cells space.now) }
-    ensures stores { StoresNothing (effect (S.cells space.now) regs.old (Act.Loads rd address n signed)) }
+    ensures leaves { Leaves result (effect (S.cells space.now) regs.old
+        (Act.Loads rd address n signed)) regs.old (S.cells space.now) regs.new (S.cells space.now) }
+    ensures stores { StoresNothing (effect (S.cells space.now) regs.old
+        (Act.Loads rd address n signed)) }
 {
     match space.load(address, n) {
         Some(loaded) => {
@@ -82,8 +90,11 @@ fn load<S: Space>(regs: &mut Regs, space: &S, rd: u8, address: u64, n: u8, signe
 
 fn store<S: Space>(regs: &mut Regs, space: &mut S, address: u64, n: u8, value: u64) -> Local
     requires { IsSize n }
-    ensures leaves { Leaves result (effect (S.cells space.old) regs.old (Act.Stores address n value)) regs.old (S.cells space.old) regs.new (S.cells space.new) }
-    ensures lands { Lands S.landed result (effect (S.cells space.old) regs.old (Act.Stores address n value)) (S.table space.old) (S.table space.new) }
+    ensures leaves { Leaves result (effect (S.cells space.old) regs.old
+        (Act.Stores address n value)) regs.old (S.cells space.old) regs.new (S.cells space.new) }
+    ensures lands { Lands S.landed result
+        (effect (S.cells space.old) regs.old (Act.Stores address n value)) (S.table space.old)
+        (S.table space.new) }
 {
     match space.store(address, n, value) {
         Ok(true) => {

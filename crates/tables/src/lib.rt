@@ -8,8 +8,6 @@
 mod keyed;
 mod rising;
 mod table;
-#[cfg(test)]
-mod tests;
 
 pub use keyed::Keyed;
 pub use rising::{find_in, insert_in, remove_in, rises};

@@ -201,7 +201,8 @@ impl Disk for MemDisk {
         ensures refused { IsErr result ↔ IsTrue (is_refused_next self.old) }
         ensures keeps { KeepsRecord self.old self.new }
         ensures recorded { length (disk_calls self.old) < room_of self.old
-            → disk_calls self.new ≡ write_call place bytes.now (is_ok result) ∷ disk_calls self.old }
+            → disk_calls self.new ≡ write_call place bytes.now (is_ok result)
+            ∷ disk_calls self.old }
         ensures lost { OnErr result ((disk_view self.new).reading ≡ (disk_view self.old).reading) }
     {
         let refused = self.refuses();

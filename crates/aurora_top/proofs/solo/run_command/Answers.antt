@@ -2,7 +2,7 @@ use Rattle.std.proofs.Common.{◌≤◌, inl, inr, refl, ◌∙◌, subst, sym}
 use Rattle.ckpt_records.specs.Parts.{group_of}
 use Rattle.command_words.specs.Words.{named_command}
 use Rattle.aurora_top.specs.declared.ending.Ending.{Ending}
-use Rattle.aurora_top.specs.Answers.{WasRefused, WasRun}
+use Rattle.aurora_top.specs.Answers.{IsRefusal, IsRunEnding}
 use Rattle.aurora_top.specs.Opening.{IsOpening}
 use Rattle.aurora_top.proofs.Answering.{opened_between, was_run}
 use Rattle.aurora_top.proofs.OpeningLaws.{opened_law, unwritten_then}
@@ -21,7 +21,7 @@ returns-in-Err-clause-answer g c =
     let files = g.F.Files.view c.args.files in
     let out = g.O.Sink.view c.args.out in
     let un = c.in-Err.ensures.err in
-    inl (subst (λ (e : Ending g.row.F.Denot g.row.D.Denot g.row.O.Denot g.row.S.Denot). WasRefused c.args.words.now before (g.D.Disk.view e.disk) files (g.F.Files.view e.files) out (g.O.Sink.view e.out) e.opened_at e.origin_epoch e.trace e.acks e.end)
+    inl (subst (λ (e : Ending g.row.F.Denot g.row.D.Denot g.row.O.Denot g.row.S.Denot). IsRefusal c.args.words.now before (g.D.Disk.view e.disk) files (g.F.Files.view e.files) out (g.O.Sink.view e.out) e.opened_at e.origin_epoch e.trace e.acks e.end)
     (sym c.refuse.ensures.told) (record {
       why = un.why files files out;
       opened = subst (λ at. IsOpening c.in-Err.end at before opened) (sym c.moment-opened_at.ensures) un.opening;
@@ -47,7 +47,7 @@ returns-in-Err-begin-clause-answer g c =
     let is = c.in-Ok.ensures.opened in
     let reads = c.begin.ensures.reads in
     let why = refused_at_origin words before opened after files command asks is.unwritten files' out c.in-Err-begin.end c.in-Err-begin.ensures.err in
-    inl (subst (λ (e : Ending g.row.F.Denot g.row.D.Denot g.row.O.Denot g.row.S.Denot). WasRefused words before (g.D.Disk.view e.disk) files (g.F.Files.view e.files) out (g.O.Sink.view e.out) e.opened_at e.origin_epoch e.trace e.acks e.end)
+    inl (subst (λ (e : Ending g.row.F.Denot g.row.D.Denot g.row.O.Denot g.row.S.Denot). IsRefusal words before (g.D.Disk.view e.disk) files (g.F.Files.view e.files) out (g.O.Sink.view e.out) e.opened_at e.origin_epoch e.trace e.acks e.end)
     (sym c.refuse-in-Err-begin.ensures.told) (record {
       why = why;
       opened = told_opening words before after files files' out command at c.in-Err-begin.end asks why (opened_law before opened after at is reads);
@@ -73,7 +73,7 @@ returns-clause-answer g c =
     let reads = c.begin.ensures.reads in
     let origin = c.in-Ok-begin.origin in
     let run = c.run_solo-run.result in
-    inr (subst (λ (e : Ending g.row.F.Denot g.row.D.Denot g.row.O.Denot g.row.S.Denot). WasRun words before (g.D.Disk.view e.disk) files out (g.O.Sink.view e.out) e.opened_at e.origin_epoch e.trace e.acks e.end)
+    inr (subst (λ (e : Ending g.row.F.Denot g.row.D.Denot g.row.O.Denot g.row.S.Denot). IsRunEnding words before (g.D.Disk.view e.disk) files out (g.O.Sink.view e.out) e.opened_at e.origin_epoch e.trace e.acks e.end)
     (sym c.finish.ensures.told)
     (was_run words before after (g.D.Disk.view run.disk) files out (g.O.Sink.view run.out) at command (group_of origin.parts) origin.epoch run.trace run.acks run.answer
     (starts words before opened after files command asks is.unwritten origin c.in-Ok-begin.ensures.ok) c.in-Ok-begin.ensures.within

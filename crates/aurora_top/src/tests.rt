@@ -1,7 +1,0 @@
-mod barriers;
-mod faults;
-mod refusals;
-mod runs;
-mod samples;
-mod shape_disk;
-mod stops;

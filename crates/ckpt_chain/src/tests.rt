@@ -1,2 +1,0 @@
-mod slots;
-mod streams;

@@ -1,2 +1,0 @@
-mod stops;
-mod telling_disk;

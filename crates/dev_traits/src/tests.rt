@@ -1,3 +1,0 @@
-mod disks;
-mod files;
-mod sinks;

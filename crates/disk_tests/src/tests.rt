@@ -1,0 +1,9 @@
+mod blocks;
+mod disks;
+mod files;
+mod pages;
+mod sinks;
+mod slots;
+mod stops;
+mod streams;
+mod telling_disk;

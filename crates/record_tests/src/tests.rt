@@ -1,0 +1,4 @@
+mod bounds;
+mod random;
+mod records;
+mod restoring;

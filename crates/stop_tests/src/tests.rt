@@ -1,0 +1,4 @@
+mod barriers;
+mod faults;
+mod samples;
+mod stops;
