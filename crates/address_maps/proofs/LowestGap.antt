@@ -12,8 +12,8 @@ use Rattle.address_maps.specs.declared.maps.Mapping.{Mapping}
 use Rattle.address_maps.specs.Mappings.{end_of, IsMapping, AreApart, has}
 use Rattle.address_maps.specs.Cut.{touches}
 use Rattle.address_maps.specs.Gaps.{area_start, area_end, IsFree, IsGap, IsFirstGap, is_gap, first_gap}
-use Rattle.address_maps.proofs.Apart.{no_mapping, none_from_any}
-use Rattle.address_maps.proofs.Cuts.{touched, touches_from}
+use Rattle.address_maps.specs.ApartLaws.{no_mapping, none_from_any}
+use Rattle.address_maps.specs.CutLaws.{touched, touches_from}
 use Rattle.address_maps.proofs.Free.{free_misses}
 
 module _ (maps : List Mapping) (each : All IsMapping maps) where

@@ -11,7 +11,7 @@ use Rattle.group_files.specs.declared.named_files.FileRec.{FileRec}
 use Rattle.group_files.specs.Names.{IsName, is_before}
 use Rattle.group_files.specs.Files.{FileFits, NamesRise, AreFiles, IsPlaceWith, file_named, file_with, place_of_name, with_file, empty_file, with_length}
 use Rattle.tables.proofs.First.{find_first, on_first_at}
-use Rattle.group_files.proofs.Ordered.{Before, rise_insert}
+use Rattle.group_files.specs.NameLaws.{Before, rise_insert}
 
 -- read where a list has no more
 abbrev pub no_file : FileRec

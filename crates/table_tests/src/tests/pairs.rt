@@ -22,7 +22,7 @@ fn send(
         return None;
     }
     match pairs.waiting(5, 0) {
-        Some(_) => Some(pairs.send(alloc, 5, from, bytes, peer)),
+        Some(_) => Some(pairs.send(alloc, 5, from, bytes, &[], peer)),
         None => None,
     }
 }

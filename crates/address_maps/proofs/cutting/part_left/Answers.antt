@@ -1,5 +1,5 @@
 use Rattle.std.proofs.Common.{sym, ◌∙◌, arith}
-use Rattle.address_maps.proofs.Cuts.{remains_whole, remains_below, remains_above, remains_nothing, one_side}
+use Rattle.address_maps.specs.CutLaws.{remains_whole, remains_below, remains_above, remains_nothing, one_side}
 use Rattle.address_maps.proofs.cutting.part_left.Goals as goal
 
 pub returns-then-not-touches : goal.returns-then-not-touches

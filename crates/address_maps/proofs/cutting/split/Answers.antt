@@ -1,6 +1,6 @@
 use Rattle.std.proofs.Common.{◌∙◌, add-one}
 use Rattle.std.proofs.lemmas.List.{get_or_default}
-use Rattle.address_maps.proofs.Cuts.{set_inserted}
+use Rattle.address_maps.specs.CutLaws.{set_inserted}
 use Rattle.address_maps.proofs.cutting.split.Goals as goal
 
 pub returns-clause-ok : goal.returns-clause-ok

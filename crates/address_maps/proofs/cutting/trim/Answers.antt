@@ -1,6 +1,6 @@
 use Rattle.std.proofs.Common.{◌<◌, length, ◌∙◌, ap, arith}
 use Rattle.address_maps.specs.Cut.{remains}
-use Rattle.address_maps.proofs.Cuts.{trimmed_read, trimmed_some, trimmed_none}
+use Rattle.address_maps.specs.CutLaws.{trimmed_read, trimmed_some, trimmed_none}
 use Rattle.address_maps.proofs.cutting.trim.Goals as goal
 use Rattle.address_maps.proofs.cutting.trim.Goals.{in-Some, in_default}
 

@@ -1,7 +1,7 @@
 use Rattle.std.proofs.Common.{◌≡◌}
 use Rattle.std.specs.Vec.{vec_capacity}
 use Rattle.address_maps.specs.Cut.{remains}
-use Rattle.address_maps.proofs.Cuts.{Trimmed}
+use Rattle.address_maps.specs.CutLaws.{Trimmed}
 use Rattle.address_maps.proofs.cutting.trim.Given as goal
 
 abbrev pub invariant-loop-place : goal.invariant-loop-place

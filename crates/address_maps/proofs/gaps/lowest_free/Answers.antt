@@ -1,7 +1,7 @@
 use Rattle.std.proofs.Common.{arith, get_or}
 use Rattle.std.proofs.lemmas.List.{get_or_default}
 use Rattle.address_maps.specs.Mappings.{IsMapping}
-use Rattle.address_maps.proofs.Apart.{no_mapping}
+use Rattle.address_maps.specs.ApartLaws.{no_mapping}
 use Rattle.address_maps.proofs.Free.{lowest_here, lowest_after, passed_more}
 use Rattle.address_maps.proofs.gaps.lowest_free.Goals as goal
 

@@ -1,4 +1,4 @@
-use Rattle.address_maps.proofs.Shown.{shown_where_added, shown_as_before}
+use Rattle.address_maps.specs.ShownLaws.{shown_where_added, shown_as_before}
 use Rattle.address_maps.proofs.laws.additions_are_shown.Goals as goal
 
 pub returns-clause-inside : goal.returns-clause-inside

@@ -1,7 +1,7 @@
 use Rattle.std.proofs.Common.{◌≡◌, ◌+◌, ◌*◌, ◌%◌, arith, ap}
 use Rattle.std.specs.Option.{option_map}
 use Rattle.address_maps.specs.Mappings.{place_shown}
-use Rattle.address_maps.proofs.Shown.{nothing_inside, same_outside}
+use Rattle.address_maps.specs.ShownLaws.{nothing_inside, same_outside}
 use Rattle.address_maps.proofs.laws.cut_unmaps_the_range.Goals as goal
 
 pub returns-clause-inside : goal.returns-clause-inside

@@ -1,4 +1,4 @@
-use Rattle.address_maps.proofs.Shown.{taken_from_address, address_from_taken}
+use Rattle.address_maps.specs.ShownLaws.{taken_from_address, address_from_taken}
 use Rattle.address_maps.proofs.laws.taken_is_mapped.Goals as goal
 
 pub returns : goal.returns

@@ -3,7 +3,7 @@ use Rattle.std.proofs.lemmas.Bool.Decides.{nat_tests}
 use Rattle.std.proofs.lemmas.List.{get_or_default}
 use Rattle.address_maps.specs.Mappings.{has}
 use Rattle.address_maps.specs.declared.maps.Place.{Place}
-use Rattle.address_maps.proofs.Apart.{place_found, place_missed, place_past, ends_after, no_mapping}
+use Rattle.address_maps.specs.ApartLaws.{place_found, place_missed, place_past, ends_after, no_mapping}
 use Rattle.address_maps.proofs.search.find_place.Goals as goal
 use Rattle.address_maps.proofs.search.find_place.Goals.{else-place-items-via-then-place-items+else-items-place, else-place-items-via-else-place-items}
 

@@ -1,7 +1,7 @@
 use Rattle.std.proofs.Common.{refl, ◌∙◌}
 use Rattle.std.proofs.lemmas.Bool.{le-ltb}
 use Rattle.std.proofs.lemmas.List.{get_or_default}
-use Rattle.address_maps.proofs.Apart.{taken_at, taken_past}
+use Rattle.address_maps.specs.ApartLaws.{taken_at, taken_past}
 use Rattle.address_maps.proofs.search.is_taken.Goals as goal
 
 pub returns-then-place-items : goal.returns-then-place-items

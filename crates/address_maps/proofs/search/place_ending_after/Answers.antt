@@ -3,7 +3,7 @@ use Rattle.std.specs.Prelude.{nat_le}
 use Rattle.std.proofs.lemmas.List.Sorted.{IsPartitionPoint-from_clause}
 use Rattle.tables.proofs.Places.{parted, place_from_point}
 use Rattle.address_maps.specs.Mappings.{AreApart, end_of}
-use Rattle.address_maps.proofs.Apart.{ends_split}
+use Rattle.address_maps.specs.ApartLaws.{ends_split}
 use Rattle.address_maps.proofs.search.place_ending_after.Goals as goal
 
 pub returns-clause-place : goal.returns-clause-place

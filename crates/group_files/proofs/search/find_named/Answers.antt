@@ -1,7 +1,7 @@
 use Rattle.std.proofs.Common.{◌≡◌, true, false, sym, ◌∙◌}
 use Rattle.std.proofs.lemmas.List.{get_or_default}
 use Rattle.group_files.specs.Names.{is_same_name}
-use Rattle.group_files.proofs.Ordered.{named_at, not_named_at, not_named_past}
+use Rattle.group_files.specs.NameLaws.{named_at, not_named_at, not_named_past}
 use Rattle.group_files.proofs.search.find_named.Goals as goal
 use Rattle.group_files.proofs.search.find_named.Goals.{else-place-files-via-then-place-files+else-eq, else-place-files-via-else-place-files}
 

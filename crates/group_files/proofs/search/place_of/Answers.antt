@@ -3,7 +3,7 @@ use Rattle.std.proofs.lemmas.List.Sorted.{IsPartitionPoint-from_clause}
 use Rattle.tables.proofs.Places.{parted, place_from_point}
 use Rattle.group_files.specs.Names.{is_before}
 use Rattle.group_files.specs.Files.{NamesRise}
-use Rattle.group_files.proofs.Ordered.{names_split}
+use Rattle.group_files.specs.NameLaws.{names_split}
 use Rattle.group_files.proofs.search.place_of.Goals as goal
 
 pub returns-clause-place : goal.returns-clause-place

@@ -1,5 +1,5 @@
 use Rattle.std.proofs.Common.{◌<◌, length, sym, ◌∙◌, arith}
-use Rattle.address_maps.proofs.Apart.{rise_from_apart, start_is_new, added_mappings}
+use Rattle.address_maps.specs.ApartLaws.{rise_from_apart, start_is_new, added_mappings}
 use Rattle.address_maps.proofs.address_map.Map.add.Goals as goal
 
 pub insert_in-requires-clause-rise : goal.insert_in-requires-clause-rise

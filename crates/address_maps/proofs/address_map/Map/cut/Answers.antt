@@ -1,7 +1,7 @@
 use Rattle.std.proofs.Common.{◌≤◌, length, arith}
 use Rattle.std.proofs.lemmas.Bool.{false≢true}
 use Rattle.address_maps.specs.Cut.{cut}
-use Rattle.address_maps.proofs.Cuts.{cut_mappings, split_adds, split_cut}
+use Rattle.address_maps.specs.CutLaws.{cut_mappings, split_adds, split_cut}
 use Rattle.address_maps.proofs.address_map.Map.cut.Goals as goal
 
 pub invariant_of-self : goal.invariant_of-self

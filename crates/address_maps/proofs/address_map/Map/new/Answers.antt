@@ -1,4 +1,4 @@
-use Rattle.address_maps.proofs.Apart.{mappings_none}
+use Rattle.address_maps.specs.ApartLaws.{mappings_none}
 use Rattle.address_maps.proofs.address_map.Map.new.Goals as goal
 
 pub invariant_of-result : goal.invariant_of-result
