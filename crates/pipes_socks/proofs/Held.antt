@@ -5,6 +5,7 @@ use Rattle.std.proofs.lemmas.List.{length-set}
 use Rattle.std.proofs.lemmas.List.Elements.{All-filter, All-nil, All-set}
 use Rattle.tables.specs.Rising.{IsPlaceOf, place_of}
 use Rattle.tables.proofs.Numbers.{all_added, length-added, length-removed, rise_insert, rise_none, rise_removed}
+use Rattle.pipes_socks.specs.declared.streams.Message.{Message}
 use Rattle.pipes_socks.specs.Pipes.{ArePipes, pipe_bytes, with_pipe_bytes, without_pipe}
 use Rattle.pipes_socks.specs.Pairs.{ArePairs, PairFits, QueueFits, messages_to, pair_of, with_messages, waiting_at, with_pair, with_waiting, without_pair}
 use Rattle.pipes_socks.specs.declared.streams.Pair.{Pair}
@@ -41,7 +42,7 @@ pipes_removed pipes n are = record {
   count = omega (arith, length-removed {X = Pipe} (λ p. p.number) pipes n, are.count);
 }
 
-pub number_kept : (p : Pair) (end : ℕ) (messages : List (List ℕ)) → (with_messages p end messages).number ≡ p.number
+pub number_kept : (p : Pair) (end : ℕ) (messages : List Message) → (with_messages p end messages).number ≡ p.number
 number_kept p end messages = by_test (end == 0)
   where
     by_test : (b : Bool) → (let new : Pair = if b then record { number = p.number; to0 = messages; to1 = p.to1 } else record { number = p.number; to0 = p.to0; to1 = messages } in new.number) ≡ p.number
@@ -52,12 +53,12 @@ module _ (read field table : List Pair) (is : read ≡ field) (shows : field ≡
   pub messages_are : waiting_at table n end ≡ messages_to z end
   messages_are = rw (entry_is {X = Pair} (λ p. p.number) read field table is shows are.rise n k here z at, waiting_at) refl
 
-  pub messages_become : (g : List (List ℕ) → List (List ℕ)) (y : Pair) → y ≡ with_messages z end (g (messages_to z end)) → set field k y ≡ with_waiting table n end (g (waiting_at table n end))
+  pub messages_become : (g : List Message → List Message) (y : Pair) → y ≡ with_messages z end (g (messages_to z end)) → set field k y ≡ with_waiting table n end (g (waiting_at table n end))
   messages_become g y made =
-      set_is {X = Pair} (λ p. p.number) read field table is shows are.rise n k here z at (λ p. with_messages p end (g (waiting_at table n end))) y (made ∙ ap (λ (m : List (List ℕ)). with_messages z end (g m)) (sym messages_are))
+      set_is {X = Pair} (λ p. p.number) read field table is shows are.rise n k here z at (λ p. with_messages p end (g (waiting_at table n end))) y (made ∙ ap (λ (m : List Message). with_messages z end (g m)) (sym messages_are))
 
   -- the list is still one of pairs
-  pub pairs_kept : (messages : List (List ℕ)) (y : Pair) → y ≡ with_messages z end messages → (QueueFits (messages_to z end) → QueueFits messages) → ArePairs (set field k y)
+  pub pairs_kept : (messages : List Message) (y : Pair) → y ≡ with_messages z end messages → (QueueFits (messages_to z end) → QueueFits messages) → ArePairs (set field k y)
   pairs_kept messages y made fits =
       let was : PairFits z = subst PairFits (sym at) (are.each k z (in_field {X = Pair} (λ p. p.number) read field table is shows are.rise n k here z at).within) in
       record {

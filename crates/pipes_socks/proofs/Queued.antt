@@ -4,13 +4,11 @@ use Rattle.std.specs.Prelude.{All, nat_lt, nat_le, if◌then◌else◌}
 use Rattle.std.proofs.lemmas.Bool.{cases_Bool}
 use Rattle.std.proofs.lemmas.Bool.Decides.{nat_tests}
 use Rattle.std.proofs.lemmas.List.Elements.{All-nil, All-cons, All-append, All-drop}
+use Rattle.pipes_socks.specs.declared.streams.Message.{Message}
 use Rattle.pipes_socks.specs.declared.answers.Sending.{Sending}
 use Rattle.pipes_socks.specs.declared.answers.Sending.TheVariants as sendings
 use Rattle.pipes_socks.specs.declared.streams.Pair.{Pair}
-use Rattle.pipes_socks.specs.Pairs.{QueueFits, PairFits, IsOrNoMemory, messages_to, with_messages, send_answer, sent_messages, left_messages}
-
-abbrev MessageFits : List ℕ → Type 0
-MessageFits m = (1 ≤ length m) × (length m ≤ 4096)
+use Rattle.pipes_socks.specs.Pairs.{MessageFits, QueueFits, PairFits, IsOrNoMemory, messages_to, with_messages, send_answer, sent_messages, left_messages}
 
 pub queue_none : QueueFits []
 unfolding QueueFits
@@ -24,7 +22,7 @@ queue_of p end fits = by_test (end == 0)
     by_test true = fits.0
     by_test false = fits.1
 
-pub pair_with : (p : Pair) (end : ℕ) (messages : List (List ℕ)) → PairFits p → QueueFits messages → PairFits (with_messages p end messages)
+pub pair_with : (p : Pair) (end : ℕ) (messages : List Message) → PairFits p → QueueFits messages → PairFits (with_messages p end messages)
 unfolding PairFits
 pair_with p end messages fits new = by_test (end == 0)
   where
@@ -33,7 +31,7 @@ pair_with p end messages fits new = by_test (end == 0)
     by_test false = (fits.0, new)
 
 -- a message is sent only where it has at most 4,096 bytes and fewer than 16 wait
-sent_where : (waiting : List (List ℕ)) (bytes : List ℕ) (peer : Bool) → IsOrNoMemory (send_answer waiting bytes peer) sendings.Sent → (length bytes ≤ 4096) × (length waiting < 16)
+sent_where : (waiting : List Message) (bytes : List ℕ) (peer : Bool) → IsOrNoMemory (send_answer waiting bytes peer) sendings.Sent → (length bytes ≤ 4096) × (length waiting < 16)
 sent_where waiting bytes peer sent = by_test (cases_Bool (nat_lt 4096 (length bytes))) (cases_Bool (not peer)) (cases_Bool (nat_le 16 (length waiting)))
   where
     by_test : (nat_lt 4096 (length bytes) ≡ true) ⊎ (nat_lt 4096 (length bytes) ≡ false) → (not peer ≡ true) ⊎ (not peer ≡ false) → (nat_le 16 (length waiting) ≡ true) ⊎ (nat_le 16 (length waiting) ≡ false)
@@ -43,20 +41,20 @@ sent_where waiting bytes peer sent = by_test (cases_Bool (nat_lt 4096 (length by
     by_test (inr short) (inr there) (inl full) = absurd (let e = rw (short, there, full) at sent in cc)
     by_test (inr short) (inr there) (inr room) = (grind (arith, nat_tests, short), grind (arith, nat_tests, room))
 
-pub queue_sent : (answer : Sending) (waiting : List (List ℕ)) (bytes : List ℕ) (peer : Bool) → 1 ≤ length bytes → IsOrNoMemory (send_answer waiting bytes peer) answer → QueueFits waiting → QueueFits (sent_messages answer waiting bytes)
-unfolding QueueFits
-queue_sent sendings.Sent waiting bytes peer some is fits =
-    let where' = sent_where waiting bytes peer is in
-    (omega (arith, length-append waiting (bytes ∷ []), where'.1), All-append MessageFits waiting (bytes ∷ []) fits.1 (All-cons MessageFits bytes [] (some, where'.0) (All-nil MessageFits)))
-queue_sent sendings.TooLong waiting bytes peer some is fits = fits
-queue_sent sendings.Broken waiting bytes peer some is fits = fits
-queue_sent sendings.Waits waiting bytes peer some is fits = fits
-queue_sent sendings.NoMemory waiting bytes peer some is fits = fits
+pub queue_sent : (answer : Sending) (waiting : List Message) (m : Message) (peer : Bool) → 1 ≤ length m.bytes → length m.opens ≤ 8 → IsOrNoMemory (send_answer waiting m.bytes peer) answer → QueueFits waiting → QueueFits (sent_messages answer waiting m)
+unfolding QueueFits MessageFits
+queue_sent sendings.Sent waiting m peer some few is fits =
+    let where' = sent_where waiting m.bytes peer is in
+    (omega (arith, length-append waiting (m ∷ []), where'.1), All-append MessageFits waiting (m ∷ []) fits.1 (All-cons MessageFits m [] (some, where'.0, few) (All-nil MessageFits)))
+queue_sent sendings.TooLong waiting m peer some few is fits = fits
+queue_sent sendings.Broken waiting m peer some few is fits = fits
+queue_sent sendings.Waits waiting m peer some few is fits = fits
+queue_sent sendings.NoMemory waiting m peer some few is fits = fits
 
-pub queue_left : (waiting : List (List ℕ)) (count : ℕ) → QueueFits waiting → QueueFits (left_messages waiting count)
+pub queue_left : (waiting : List Message) (count : ℕ) → QueueFits waiting → QueueFits (left_messages waiting count)
 unfolding QueueFits
 queue_left waiting count fits = by_test (count == 0)
   where
-    by_test : (b : Bool) → (let left : List (List ℕ) = if b then waiting else drop 1 waiting in (length left ≤ 16) × All MessageFits left)
+    by_test : (b : Bool) → (let left : List Message = if b then waiting else drop 1 waiting in (length left ≤ 16) × All MessageFits left)
     by_test true = fits
     by_test false = (omega (arith, length-drop 1 waiting, fits.0), All-drop MessageFits 1 waiting fits.1)

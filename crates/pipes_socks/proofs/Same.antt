@@ -5,6 +5,7 @@ use Rattle.std.proofs.lemmas.Bool.{cases_Bool}
 use Rattle.std.proofs.lemmas.List.{append-nil}
 use Rattle.tables.specs.Lists.{on_first}
 use Rattle.tables.proofs.Only.{none_from_find, on_first_no}
+use Rattle.pipes_socks.specs.declared.streams.Message.{Message}
 use Rattle.pipes_socks.specs.declared.answers.Sending.{Sending}
 use Rattle.pipes_socks.specs.declared.answers.Sending.TheVariants as sendings
 use Rattle.pipes_socks.specs.declared.answers.Pull.TheVariants as pulls
@@ -55,9 +56,9 @@ kept_messages p end = by_test (end == 0)
 pub same_messages : (pairs : List Pair) (n end : ℕ) → with_waiting pairs n end (waiting_at pairs n end) ≡ pairs
 same_messages pairs n end =
     on_first_kept {X = Pair} (λ p. p.number == n) (λ p. with_messages p end (waiting_at pairs n end)) pairs
-    (λ p found. ap (λ (m : List (List ℕ)). with_messages p end m) (rw (found, waiting_at) refl) ∙ kept_messages p end)
+    (λ p found. ap (λ (m : List Message). with_messages p end m) (rw (found, waiting_at) refl) ∙ kept_messages p end)
 
-pub nothing_sent : (answer : Sending) (waiting : List (List ℕ)) (bytes : List ℕ) → (answer ≡ sendings.Sent → ⊥) → sent_messages answer waiting bytes ≡ waiting
+pub nothing_sent : (answer : Sending) (waiting : List Message) (bytes : Message) → (answer ≡ sendings.Sent → ⊥) → sent_messages answer waiting bytes ≡ waiting
 nothing_sent sendings.Sent waiting bytes other = absurd (other refl)
 nothing_sent sendings.TooLong waiting bytes other = refl
 nothing_sent sendings.Broken waiting bytes other = refl
@@ -65,10 +66,10 @@ nothing_sent sendings.Waits waiting bytes other = refl
 nothing_sent sendings.NoMemory waiting bytes other = refl
 
 -- a receiver waits only where no message does
-pub nothing_received : (waiting : List (List ℕ)) (count : ℕ) (peer : Bool) → recv_answer waiting count peer ≡ pulls.Waits → left_messages waiting count ≡ waiting
+pub nothing_received : (waiting : List Message) (count : ℕ) (peer : Bool) → recv_answer waiting count peer ≡ pulls.Waits → left_messages waiting count ≡ waiting
 nothing_received [] count peer waits = by_test (count == 0)
   where
-    by_test : (b : Bool) → (let l : List (List ℕ) = if b then [] else [] in l) ≡ []
+    by_test : (b : Bool) → (let l : List Message = if b then [] else [] in l) ≡ []
     by_test true = refl
     by_test false = refl
 nothing_received (message ∷ messages) count peer waits = by_test (cases_Bool (count == 0))

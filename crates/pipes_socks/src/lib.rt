@@ -17,4 +17,4 @@ mod streams;
 pub use answers::{Pull, Push, Sending, TableRefused};
 pub use pairs::PairTable;
 pub use pipes::PipeTable;
-pub use streams::{Pair, Pipe};
+pub use streams::{Message, Pair, Pipe};

@@ -5,7 +5,7 @@ ghost use Rattle.pipes_socks.specs.declared.answers.Pull.TheVariants.{Waits};
 ghost use Rattle.pipes_socks.specs.declared.answers.Sending.TheVariants.{Sent};
 ghost use Rattle.pipes_socks.specs.declared.answers.TableRefused.TheVariants.{Full};
 ghost use Rattle.pipes_socks.specs.Pipes.{pulled_count};
-ghost use Rattle.pipes_socks.specs.Pairs.{ArePairs, messages_to, send_answer, IsOrNoMemory, sent_messages, recv_answer, first_message, left_messages, pair_of, waiting_at, with_waiting, with_pair, without_pair, first_length};
+ghost use Rattle.pipes_socks.specs.Pairs.{ArePairs, messages_to, send_answer, IsOrNoMemory, sent_messages, recv_answer, first_bytes, left_messages, pair_of, waiting_at, with_waiting, with_pair, without_pair, first_length, first_carried};
 
 use crate::answers::{Pull, Sending, TableRefused};
 use crate::queues::Queues;
@@ -126,7 +126,19 @@ impl PairTable {
     {
         let place = find_in(&self.pairs, number)?;
         match self.pairs[place].messages(end).first() {
-            Some(message) => Some(message.len() as u64),
+            Some(message) => Some(message.bytes.len() as u64),
+            None => None,
+        }
+    }
+
+    /// How many descriptions the first message that waits at an end carries; none where none waits.
+    pub fn carried(&self, number: u64, end: u8) -> Option<u64>
+        requires { end < 2 }
+        ensures { result ≡ first_carried self.now.entries number end }
+    {
+        let place = find_in(&self.pairs, number)?;
+        match self.pairs[place].messages(end).first() {
+            Some(message) => Some(message.opens.len() as u64),
             None => None,
         }
     }
@@ -143,28 +155,31 @@ impl PairTable {
         }
     }
 
-    /// Sends a message of at least one byte from one end to the other, which is there or not.
+    /// Sends a message of at least one byte from one end to the other, which is there or not. It
+    /// carries the descriptions of these numbers.
     pub fn send(
         &mut self,
         alloc: Global,
         number: u64,
         from: u8,
         bytes: &[u8],
+        opens: &[u64],
         peer: bool,
     ) -> Sending
         requires there { IsSome (pair_of self.old.entries number) }
         requires end { from < 2 }
         requires some { 1 ≤ length bytes.now }
+        requires few { length opens.now ≤ 8 }
         ensures answer { let waiting = waiting_at self.old.entries number (1 - from) in
             IsOrNoMemory (send_answer waiting bytes.now peer) result }
         ensures pairs { let waiting = waiting_at self.old.entries number (1 - from) in
             self.new.entries ≡ with_waiting self.old.entries number (1 - from)
-            (sent_messages result waiting bytes.now) }
+            (sent_messages result waiting (record { bytes = bytes.now; opens = opens.now })) }
         ensures same { result ≢ Sent → self.new.entries ≡ self.old.entries }
         ensures spare { self.new.spare ≡ self.old.spare }
     {
         let place = place_of(&self.pairs, number);
-        self.pairs[place].send(alloc, 1 - from, bytes, peer)
+        self.pairs[place].send(alloc, 1 - from, bytes, opens, peer)
     }
 
     /// Receives the first message that waits at an end; what the buffer doesn't hold of it is lost.
@@ -178,7 +193,7 @@ impl PairTable {
             (left_messages waiting (length into.old)) }
         ensures same { result ≡ Waits → self.new.entries ≡ self.old.entries }
         ensures given { let waiting = waiting_at self.old.entries number end in
-            into.new ≡ take (pulled_count result) (first_message waiting)
+            into.new ≡ take (pulled_count result) (first_bytes waiting)
             ++ drop (pulled_count result) into.old }
         ensures spare { self.new.spare ≡ self.old.spare }
     {

@@ -1,10 +1,10 @@
 ghost use Rattle.std.specs.Prelude.{◌≡◌, ◌≤◌, ◌<◌, ◌-◌, ◌+◌, [], ◌∷◌, ◌++◌, length, take, drop, IfOk, min};
 ghost use Rattle.pipes_socks.specs.Pipes.{pulled_count};
 ghost use Rattle.pipes_socks.specs.declared.answers.Sending.TheVariants.{Sent};
-ghost use Rattle.pipes_socks.specs.Pairs.{messages_to, with_messages, send_answer, IsOrNoMemory, sent_messages, recv_answer, first_message, left_messages};
+ghost use Rattle.pipes_socks.specs.Pairs.{messages_to, with_messages, send_answer, IsOrNoMemory, sent_messages, recv_answer, first_bytes, left_messages};
 
 use crate::answers::{Pull, Sending};
-use crate::streams::Pair;
+use crate::streams::{Message, Pair};
 use lists::{NoMemory, Seq};
 use std::alloc::Global;
 use std::marker::Model;
@@ -13,8 +13,8 @@ use std::marker::Model;
 #[derive(Drop)]
 pub struct Queues {
     number: u64,
-    to0: Vec<Seq<u8>>,
-    to1: Vec<Seq<u8>>,
+    to0: Vec<Message>,
+    to1: Vec<Message>,
 }
 
 impl Model for Queues {
@@ -31,20 +31,47 @@ fn copy_bytes(alloc: Global, bytes: &[u8]) -> Result<Seq<u8>, NoMemory>
     Ok(Seq::of(Vec::from_slice(alloc, bytes)?))
 }
 
-fn copy_messages(alloc: Global, messages: &[Seq<u8>]) -> Result<Seq<Seq<u8>>, NoMemory>
+fn copy_numbers(alloc: Global, numbers: &[u64]) -> Result<Seq<u64>, NoMemory>
+    ensures { IfOk result (λ copy. copy ≡ numbers.now) }
+{
+    Ok(Seq::of(Vec::from_slice(alloc, numbers)?))
+}
+
+fn message_of(alloc: Global, bytes: &[u8], opens: &[u64]) -> Result<Message, NoMemory>
+    ensures { IfOk result (λ m. m ≡ record { bytes = bytes.now; opens = opens.now }) }
+{
+    let bytes = copy_bytes(alloc, bytes)?;
+    let opens = copy_numbers(alloc, opens)?;
+    Ok(Message { bytes, opens })
+}
+
+fn copy_message(alloc: Global, message: &Message) -> Result<Message, NoMemory>
+    ensures { IfOk result (λ copy. copy ≡ message.now) }
+{
+    message_of(alloc, message.bytes.as_slice(), message.opens.as_slice())
+}
+
+fn copy_messages(alloc: Global, messages: &[Message]) -> Result<Seq<Message>, NoMemory>
     ensures { IfOk result (λ copy. copy ≡ messages.now) }
 {
     let mut copy = Seq::new(alloc);
     for message in messages {
-        copy.push(copy_bytes(alloc, message.as_slice())?)?;
+        copy.push(copy_message(alloc, message)?)?;
     }
     Ok(copy)
 }
 
 // Adds a message behind those that wait.
-fn post(alloc: Global, waiting: &mut Vec<Seq<u8>>, bytes: &[u8], peer: bool) -> Sending
+fn post(
+    alloc: Global,
+    waiting: &mut Vec<Message>,
+    bytes: &[u8],
+    opens: &[u64],
+    peer: bool,
+) -> Sending
     ensures answer { IsOrNoMemory (send_answer waiting.old.items bytes.now peer) result }
-    ensures messages { waiting.new.items ≡ sent_messages result waiting.old.items bytes.now }
+    ensures messages { waiting.new.items
+        ≡ sent_messages result waiting.old.items (record { bytes = bytes.now; opens = opens.now }) }
 {
     if bytes.len() > 4096 {
         return Sending::TooLong;
@@ -55,13 +82,13 @@ fn post(alloc: Global, waiting: &mut Vec<Seq<u8>>, bytes: &[u8], peer: bool) -> 
     if waiting.len() >= 16 {
         return Sending::Waits;
     }
-    match copy_bytes(alloc, bytes) {
+    match message_of(alloc, bytes, opens) {
         Ok(message) => add(waiting, message),
         Err(_) => Sending::NoMemory,
     }
 }
 
-fn add(waiting: &mut Vec<Seq<u8>>, message: Seq<u8>) -> Sending
+fn add(waiting: &mut Vec<Message>, message: Message) -> Sending
     ensures answer { IsOrNoMemory Sent result }
     ensures messages { waiting.new.items ≡ sent_messages result waiting.old.items message }
 {
@@ -82,10 +109,10 @@ fn give(message: &[u8], into: &mut [u8]) -> u64
 }
 
 // Takes the first message that waits.
-fn fetch(waiting: &mut Vec<Seq<u8>>, into: &mut [u8], peer: bool) -> Pull
+fn fetch(waiting: &mut Vec<Message>, into: &mut [u8], peer: bool) -> Pull
     ensures answer { result ≡ recv_answer waiting.old.items (length into.old) peer }
     ensures messages { waiting.new.items ≡ left_messages waiting.old.items (length into.old) }
-    ensures given { into.new ≡ take (pulled_count result) (first_message waiting.old.items)
+    ensures given { into.new ≡ take (pulled_count result) (first_bytes waiting.old.items)
         ++ drop (pulled_count result) into.old }
 {
     if into.is_empty() {
@@ -95,7 +122,7 @@ fn fetch(waiting: &mut Vec<Seq<u8>>, into: &mut [u8], peer: bool) -> Pull
         return if peer { Pull::Waits } else { Pull::Taken(0) };
     }
     let message = waiting.remove(0);
-    Pull::Taken(give(message.as_slice(), into))
+    Pull::Taken(give(message.bytes.as_slice(), into))
 }
 
 impl Queues {
@@ -143,7 +170,7 @@ impl Queues {
     }
 
     /// The messages that wait at an end, 0 or 1.
-    pub fn messages(&self, end: u8) -> &[Seq<u8>]
+    pub fn messages(&self, end: u8) -> &[Message]
         ensures { result.now ≡ messages_to self.now end }
     {
         if end == 0 {
@@ -154,16 +181,24 @@ impl Queues {
     }
 
     /// Sends a message to an end.
-    pub fn send(&mut self, alloc: Global, to: u8, bytes: &[u8], peer: bool) -> Sending
+    pub fn send(
+        &mut self,
+        alloc: Global,
+        to: u8,
+        bytes: &[u8],
+        opens: &[u64],
+        peer: bool,
+    ) -> Sending
         ensures answer { let waiting = messages_to self.old to in
             IsOrNoMemory (send_answer waiting bytes.now peer) result }
         ensures pair { let waiting = messages_to self.old to in
-            self.new ≡ with_messages self.old to (sent_messages result waiting bytes.now) }
+            self.new ≡ with_messages self.old to
+            (sent_messages result waiting (record { bytes = bytes.now; opens = opens.now })) }
     {
         if to == 0 {
-            post(alloc, &mut self.to0, bytes, peer)
+            post(alloc, &mut self.to0, bytes, opens, peer)
         } else {
-            post(alloc, &mut self.to1, bytes, peer)
+            post(alloc, &mut self.to1, bytes, opens, peer)
         }
     }
 
@@ -173,7 +208,7 @@ impl Queues {
         ensures pair { let waiting = messages_to self.old end in
             self.new ≡ with_messages self.old end (left_messages waiting (length into.old)) }
         ensures given { let waiting = messages_to self.old end in
-            into.new ≡ take (pulled_count result) (first_message waiting)
+            into.new ≡ take (pulled_count result) (first_bytes waiting)
             ++ drop (pulled_count result) into.old }
     {
         if end == 0 {

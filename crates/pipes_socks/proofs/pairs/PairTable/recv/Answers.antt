@@ -1,4 +1,5 @@
 use Rattle.std.proofs.Common.{rules, ap, List, ℕ, length, ◌∙◌}
+use Rattle.pipes_socks.specs.declared.streams.Message.{Message}
 use Rattle.pipes_socks.specs.Pairs.{left_messages, messages_to, waiting_at, with_waiting}
 use Rattle.pipes_socks.proofs.Same.{same_messages, nothing_received}
 use Rattle.pipes_socks.proofs.Queued.{queue_left}
@@ -18,5 +19,5 @@ returns-clause-pairs c =
 pub returns-clause-same : goal.returns-clause-same
 returns-clause-same c waits =
     returns-clause-pairs c
-    ∙ ap (λ (m : List (List ℕ)). with_waiting c.args.self.now.entries c.args.number c.args.end m) (nothing_received (waiting_at c.args.self.now.entries c.args.number c.args.end) (length c.args.into.now) c.args.peer (search rules))
+    ∙ ap (λ (m : List Message). with_waiting c.args.self.now.entries c.args.number c.args.end m) (nothing_received (waiting_at c.args.self.now.entries c.args.number c.args.end) (length c.args.into.now) c.args.peer (search rules))
     ∙ same_messages c.args.self.now.entries c.args.number c.args.end
