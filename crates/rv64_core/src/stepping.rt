@@ -105,6 +105,3 @@ fn store<S: Space>(regs: &mut Regs, space: &mut S, address: u64, n: u8, value: u
         Err(NoMemory) => Local::NoMemory,
     }
 }
-
-#[cfg(test)]
-mod tests;

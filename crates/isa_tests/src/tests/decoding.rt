@@ -1,7 +1,6 @@
 ghost use Rattle.std.specs.Prelude.{◌+◌, ◌*◌, ◌^◌, ◌<◌};
 
-use super::*;
-use crate::encoding::encode;
+use rv64_isa::{decode, encode};
 use std::alloc::Global;
 use std::process::Abort;
 use std::test::Fail;

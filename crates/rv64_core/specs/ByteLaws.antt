@@ -8,7 +8,7 @@ use Rattle.std.proofs.Math.Path.{fun_ext}
 use Rattle.std.proofs.Math.Pow.{pow_mono}
 use Rattle.rv64_isa.specs.Memory.{Cell, Cells, byte_of, both, bytes_with, is_same_place, poked, stored}
 use Rattle.rv64_isa.specs.Numbers.{wrapped, number_of}
-use Rattle.rv64_isa.proofs.Places.{bytes_with-wrapped}
+use Rattle.rv64_isa.specs.PlaceLaws.{bytes_with-wrapped}
 use Rattle.rv64_core.specs.Flat.{flat_cells}
 
 abbrev number_at : ℕ → Cells → ℕ → ℕ → Option ℕ

@@ -1,4 +1,4 @@
-use super::*;
+use rv64_isa::{AluOp, alu};
 use std::process::Abort;
 
 /// Each operation on these two numbers gives the last one.

@@ -1,7 +1,7 @@
 ghost use Rattle.rv64_core.specs.Flat.{flat_cells, flat_private};
 
-use super::*;
-use crate::flat::Flat;
+use lists::NoMemory;
+use rv64_core::{Flat, Local, Regs, Space, local_step};
 use std::alloc::{AllocError, Global};
 use std::test::Fail;
 

@@ -1,0 +1,3 @@
+mod arithmetic;
+mod decoding;
+mod stepping;
