@@ -90,12 +90,13 @@ fn blocks_of(alloc: Global, bytes: &[u8], blocks: &[u64]) -> Result<Vec<PageByte
 
 /// What `lay_stream` gives, put on its blocks, is read as the stream.
 pub fn laid_is_read()
-    ensures { (image : List ℕ) (count epoch : ℕ) (bytes blocks : List ℕ) → count ≤ 2 ^ 20
+    ensures { (image : List ℕ) (count format epoch : ℕ) (bytes blocks : List ℕ) → count ≤ 2 ^ 20
         → 1 ≤ length bytes → length bytes ≤ 4088 * (count - 2)
         → length blocks ≡ metas_for (length bytes)
         → AllByRecursion (λ b. (2 ≤ b) × (b < count)) blocks
         → HasBlocks image blocks (laid bytes blocks)
         → stream_at image count (record {
+          format = format;
           epoch = epoch;
           first = first_of blocks;
           length = length

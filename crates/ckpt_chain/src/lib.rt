@@ -12,5 +12,5 @@ mod stream;
 
 pub use laws::kept_is_read;
 pub use lay::{PageBytes, laid_is_read, lay_stream};
-pub use slot::{Slot, SlotBody, Slots, open_slot, read_slot, read_slots};
+pub use slot::{Slot, SlotBody, Slots, open_slot, read_slot, read_slots, slot_text};
 pub use stream::{Stream, StreamRefused, read_block, read_stream};

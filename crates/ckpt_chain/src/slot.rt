@@ -2,7 +2,7 @@
 ghost use Rattle.std.specs.Prelude.{◌≡◌, ◌≤◌, ◌+◌, ◌^◌, ℕ, List, length, Some, IfOk, IfSome, OnErr};
 ghost use Rattle.dev_traits.specs.Counts.{Rose};
 ghost use Rattle.ckpt_chain.specs.Reads.{OnlyReads};
-ghost use Rattle.ckpt_chain.specs.Slot.{num_at, is_open as is_open_at, body_at, open_body, newer, newest, gates_of};
+ghost use Rattle.ckpt_chain.specs.Slot.{num_at, IsFormat, slot_text as text_of_format, format_of as format_of_text, body_at, open_body, newer, newest, gates_of};
 
 use crate::stream::read_block;
 use dev_traits::{Disk, Failed};
@@ -14,10 +14,11 @@ pub enum Slot {
     B,
 }
 
-/// What an open slot says of its checkpoint: the epoch, the first meta block, and the length of the
-/// meta stream in bytes.
+/// What an open slot says of its checkpoint: the format of its record, 1 or 2, by the slot's text; the
+/// epoch, the first meta block, and the length of the meta stream in bytes.
 #[derive(Clone, Copy, Debug, PartialEq, Eq)]
 pub struct SlotBody {
+    pub format: u8,
     pub epoch: u64,
     pub first: u64,
     pub length: u64,
@@ -45,30 +46,50 @@ pub fn u64_at(bytes: &[u8], at: usize) -> u64
     ])
 }
 
-#[tactic(auto, unfolding(crate::specs::Slot::is_open))]
-fn is_open(bytes: &[u8]) -> bool
-    requires { length bytes.now ≡ 4096 }
-    ensures { result ≡ is_open_at bytes.now 0 }
+/// The text of a slot of a format: AURSLOT1 or AURSLOT2.
+pub fn slot_text(format: u8) -> [u8; 8]
+    requires { IsFormat format }
+    ensures { result ≡ text_of_format format }
 {
-    let (_, rest) = bytes.split_at(8);
-    let (text, _) = rest.split_at(8);
-    bytes[0] == 1 && text == b"AURSLOT1".as_slice() && u64_at(bytes, 16) >= 1
+    [b'A', b'U', b'R', b'S', b'L', b'O', b'T', b'0' + format]
 }
 
-/// What a slot's block says, where the slot is open.
+#[tactic(auto, unfolding(crate::specs::Slot::format_of))]
+fn format_of(text: &[u8]) -> Option<u8>
+    ensures text { result ≡ format_of_text text.now }
+    ensures format { IfSome result IsFormat }
+{
+    if text == slot_text(1).as_slice() {
+        return Some(1);
+    }
+    if text == slot_text(2).as_slice() {
+        return Some(2);
+    }
+    None
+}
+
+/// What a slot's block says, where the slot is open: its gate is 1, its text is AURSLOT1 or AURSLOT2,
+/// and its epoch is at least 1.
 #[tactic(auto, unfolding(crate::specs::Slot::open_body))]
 pub fn read_slot(bytes: &[u8]) -> Option<SlotBody>
     requires { length bytes.now ≡ 4096 }
-    ensures { result ≡ open_body bytes.now 0 }
+    ensures body { result ≡ open_body bytes.now 0 }
+    ensures format { IfSome result (λ b. IsFormat b.format) }
 {
-    if !is_open(bytes) {
+    let (_, rest) = bytes.split_at(8);
+    let (text, _) = rest.split_at(8);
+    if bytes[0] != 1 || u64_at(bytes, 16) == 0 {
         return None;
     }
-    Some(SlotBody {
-        epoch: u64_at(bytes, 16),
-        first: u64_at(bytes, 24),
-        length: u64_at(bytes, 32),
-    })
+    match format_of(text) {
+        Some(format) => Some(SlotBody {
+            format,
+            epoch: u64_at(bytes, 16),
+            first: u64_at(bytes, 24),
+            length: u64_at(bytes, 32),
+        }),
+        None => None,
+    }
 }
 
 /// The newest open slot: that of the greater epoch, A if they are equal.
@@ -99,6 +120,7 @@ pub fn read_slots<D: Disk>(disk: &mut D) -> Result<Slots, Failed>
     ensures gates { (image : List ℕ) → (D.view disk.old).reading ≡ Some image
         → IfOk result (λ s. s.gates ≡ gates_of image) }
     ensures epoch { IfOk result (λ s. IfSome s.newest (λ x. 1 ≤ x.1.epoch)) }
+    ensures format { IfOk result (λ s. IfSome s.newest (λ x. IsFormat x.1.format)) }
     ensures disk { OnlyReads (D.view disk.old) (D.view disk.new) }
     ensures cause { OnErr result (Rose (D.view disk.old).faults (D.view disk.new).faults) }
 {

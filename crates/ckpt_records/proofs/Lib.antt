@@ -1,7 +1,10 @@
 pub mod CodecLaws
+pub mod CostLaws
 pub mod Held
 pub mod Loop
-pub mod Members
 pub mod PartLaws
+pub mod PlaceLaws
+pub mod RunLaws
+pub mod SpellLaws
 pub mod Unique
-pub mod Ordered
+pub mod WalkLaws

@@ -5,18 +5,23 @@ use Rattle.group_defs.specs.Group.{Group}
 use Rattle.group_defs.specs.Pages.{nonzero_pages}
 use Rattle.group_defs.specs.declared.frame.Frame.{Frame}
 use Rattle.ckpt_chain.specs.Chain.{metas_for}
-use Rattle.ckpt_records.specs.Spelling.{record_bytes}
+use Rattle.ckpt_records.specs.Runs.{lone_run}
+use Rattle.ckpt_records.specs.Spelling.{run_record}
 use Rattle.ckpt_records.specs.declared.meta.PagePlace.{PagePlace}
 
--- the page in block 0: a record's length is the same wherever its pages lie
+-- the page in block 0: how long the record is doesn't depend on where pages lie that are runs of their own
 abbrev pub unplaced : ℕ × ℕ → PagePlace
 unplaced page = record { object = page.0; page = page.1; block = 0 }
 
--- how many blocks a checkpoint of these pages takes: one for each page, and its meta blocks
-abbrev pub blocks_for : Frame → List (ℕ × ℕ) → ℕ
-blocks_for f pages = length pages + metas_for (length (record_bytes f (map unplaced pages)))
+-- how many meta blocks a record of these pages takes, where each page is a run of its own
+abbrev pub metas_of : Frame → List (ℕ × ℕ) → ℕ
+metas_of f pages = metas_for (length (run_record 2 f (map (λ page. lone_run (unplaced page)) pages)))
 
--- how many a group's checkpoint takes: one for each page that isn't all zero, and its meta blocks
+-- how many blocks a checkpoint of these pages takes at most: one for each page, and its meta blocks
+abbrev pub blocks_for : Frame → List (ℕ × ℕ) → ℕ
+blocks_for f pages = length pages + metas_of f pages
+
+-- how many a group's checkpoint takes at most: one for each page that isn't all zero, and its meta blocks
 abbrev pub cost_of : Group → ℕ
 cost_of g = blocks_for g.frame (nonzero_pages g)
 

@@ -1,6 +1,7 @@
 -- What the public clauses say.
 pub mod Codec
 pub mod Fits
+pub mod Runs
 pub mod Spelling
 pub mod Spells
 pub mod Holds
@@ -11,4 +12,5 @@ pub mod Cost
 pub mod Pages
 -- What only private functions say.
 pub mod Gives
+pub mod Listed
 pub mod Reading

@@ -11,28 +11,34 @@ use std::alloc::{AllocError, Global};
 
 fn times_of<T: Field + Drop>(
     alloc: Global,
+    format: u8,
     count: u64,
     bytes: &[u8],
 ) -> Result<(Vec<T>, &[u8]), ReadError>
-    ensures { Gives (λ x. (x.0.items, x.1.now)) result (times_at T.reads count bytes.now) }
+    ensures { Gives (λ x. (x.0.items, x.1.now)) result
+        (times_at (T.reads format) count bytes.now) }
 {
     let mut items = Vec::new(alloc);
     let mut rest = bytes;
     for _ in 0..count {
-        let (item, after) = T::read(alloc, rest)?;
+        let (item, after) = T::read(alloc, format, rest)?;
         items.push(item)?;
         rest = after;
     }
     Ok((items, rest))
 }
 
-/// Reads a count and that many entries.
+/// Reads a count and that many entries. Memory is taken for entries that were read, and not for the count.
 #[tactic(auto, unfolding(crate::specs::Codec::list_at))]
-pub fn list_of<T: Field + Drop>(alloc: Global, bytes: &[u8]) -> Result<(Seq<T>, &[u8]), ReadError>
-    ensures { Gives (λ x. (x.0, x.1.now)) result (list_at T.reads bytes.now) }
+pub fn list_of<T: Field + Drop>(
+    alloc: Global,
+    format: u8,
+    bytes: &[u8],
+) -> Result<(Seq<T>, &[u8]), ReadError>
+    ensures { Gives (λ x. (x.0, x.1.now)) result (list_at (T.reads format) bytes.now) }
 {
     let (count, rest) = u64_at(bytes)?;
-    let (items, rest) = times_of::<T>(alloc, count, rest)?;
+    let (items, rest) = times_of::<T>(alloc, format, count, rest)?;
     Ok((Seq::of(items), rest))
 }
 

@@ -1,5 +1,6 @@
-ghost use Rattle.std.specs.Prelude.{◌≡◌, ◌<◌, ◌++◌, ◌^◌, OnOk};
+ghost use Rattle.std.specs.Prelude.{◌≡◌, ◌<◌, ◌++◌, ◌^◌, [], OnOk};
 ghost use Rattle.std.specs.List.{flat_map};
+ghost use Rattle.ckpt_records.specs.Gives.{Gives};
 ghost use Rattle.ckpt_records.specs.Codec as codec;
 ghost use Rattle.ckpt_records.specs.Fits as fits;
 ghost use Rattle.ckpt_records.specs.Reading as reading;
@@ -8,13 +9,13 @@ ghost use Rattle.ckpt_records.specs.Spelling as spelling;
 use crate::counted::{list_of, put_list};
 use crate::error::ReadError;
 use crate::field::Field;
-use crate::meta::PagePlace;
+use crate::meta::PageRun;
 use crate::numbers::{
     bool_at, put_bool, put_regs, put_text, put_u8, put_u32, put_u64, regs_of, text_of, u8_at,
     u32_at, u64_at,
 };
 use group_defs::{
-    FileRec, Mapping, Next, ObjectRec, Open, OpenKind, Out, Pair, Pipe, Proc, ProcState,
+    FileRec, Mapping, Message, Next, ObjectRec, Open, OpenKind, Out, Pair, Pipe, Proc, ProcState,
 };
 use lists::Seq;
 use std::alloc::{AllocError, Global};
@@ -24,10 +25,10 @@ impl Field for Mapping {
 
     ghost Fits = { fits.MappingInRange };
 
-    ghost reads = { reading.mapping_from };
+    ghost reads = { λ _. reading.mapping_from };
 
     #[tactic(auto, unfolding(crate::specs::Reading::mapping_from))]
-    fn read(_alloc: Global, bytes: &[u8]) -> Result<(Mapping, &[u8]), ReadError> {
+    fn read(_alloc: Global, _format: u8, bytes: &[u8]) -> Result<(Mapping, &[u8]), ReadError> {
         let (start, rest) = u64_at(bytes)?;
         let (pages, rest) = u64_at(rest)?;
         let (prot, rest) = u8_at(rest)?;
@@ -60,10 +61,10 @@ impl Field for Next {
 
     ghost Fits = { fits.NextInRange };
 
-    ghost reads = { reading.next_at };
+    ghost reads = { λ _. reading.next_at };
 
     #[tactic(auto, unfolding(crate::specs::Reading::next_at))]
-    fn read(_alloc: Global, bytes: &[u8]) -> Result<(Next, &[u8]), ReadError> {
+    fn read(_alloc: Global, _format: u8, bytes: &[u8]) -> Result<(Next, &[u8]), ReadError> {
         let (pid, rest) = u32_at(bytes)?;
         let (object, rest) = u64_at(rest)?;
         let (descr, rest) = u64_at(rest)?;
@@ -93,10 +94,10 @@ impl Field for Out {
 
     ghost Fits = { fits.OutRange };
 
-    ghost reads = { reading.out_at };
+    ghost reads = { λ _. reading.out_at };
 
     #[tactic(auto, unfolding(crate::specs::Reading::out_at))]
-    fn read(alloc: Global, bytes: &[u8]) -> Result<(Out, &[u8]), ReadError> {
+    fn read(alloc: Global, _format: u8, bytes: &[u8]) -> Result<(Out, &[u8]), ReadError> {
         let (from, rest) = u64_at(bytes)?;
         let (bytes, rest) = text_of(alloc, rest)?;
         let held = bytes.as_slice().len() as u64;
@@ -123,10 +124,10 @@ impl Field for ObjectRec {
 
     ghost Fits = { fits.ObjectInRange };
 
-    ghost reads = { reading.object_at };
+    ghost reads = { λ _. reading.object_at };
 
     #[tactic(auto, unfolding(crate::specs::Reading::object_at))]
-    fn read(_alloc: Global, bytes: &[u8]) -> Result<(ObjectRec, &[u8]), ReadError> {
+    fn read(_alloc: Global, _format: u8, bytes: &[u8]) -> Result<(ObjectRec, &[u8]), ReadError> {
         let (number, rest) = u64_at(bytes)?;
         let (pages, rest) = u64_at(rest)?;
         Ok((ObjectRec { number, pages }, rest))
@@ -143,10 +144,10 @@ impl Field for FileRec {
 
     ghost Fits = { fits.FileInRange };
 
-    ghost reads = { reading.file_at };
+    ghost reads = { λ _. reading.file_at };
 
     #[tactic(auto, unfolding(crate::specs::Reading::file_at))]
-    fn read(alloc: Global, bytes: &[u8]) -> Result<(FileRec, &[u8]), ReadError> {
+    fn read(alloc: Global, _format: u8, bytes: &[u8]) -> Result<(FileRec, &[u8]), ReadError> {
         let (name, rest) = text_of(alloc, bytes)?;
         let (object, rest) = u64_at(rest)?;
         let (length, rest) = u64_at(rest)?;
@@ -170,10 +171,10 @@ impl Field for Pipe {
 
     ghost Fits = { fits.PipeInRange };
 
-    ghost reads = { reading.pipe_at };
+    ghost reads = { λ _. reading.pipe_at };
 
     #[tactic(auto, unfolding(crate::specs::Reading::pipe_at))]
-    fn read(alloc: Global, bytes: &[u8]) -> Result<(Pipe, &[u8]), ReadError> {
+    fn read(alloc: Global, _format: u8, bytes: &[u8]) -> Result<(Pipe, &[u8]), ReadError> {
         let (number, rest) = u64_at(bytes)?;
         let (bytes, rest) = text_of(alloc, rest)?;
         Ok((Pipe { number, bytes }, rest))
@@ -185,35 +186,66 @@ impl Field for Pipe {
     }
 }
 
-/// One message.
-impl Field for Seq<u8> {
-    ghost spells = { codec.text };
+impl Field for u64 {
+    ghost spells = { codec.number };
 
-    ghost Fits = { fits.TextFits };
+    ghost Fits = { fits.Is64 };
 
-    ghost reads = { codec.text_at };
+    ghost reads = { λ _. codec.number_from };
 
-    fn read(alloc: Global, bytes: &[u8]) -> Result<(Seq<u8>, &[u8]), ReadError> {
-        text_of(alloc, bytes)
+    fn read(_alloc: Global, _format: u8, bytes: &[u8]) -> Result<(u64, &[u8]), ReadError> {
+        u64_at(bytes)
     }
 
     fn write(&self, out: &mut Vec<u8>) -> Result<(), AllocError> {
-        put_text(out, self.as_slice())
+        put_u64(out, *self)
+    }
+}
+
+// What a message carries. In format 1 it isn't written, and there is nothing.
+#[tactic(auto, unfolding(crate::specs::Reading::second_at))]
+fn carried_of(alloc: Global, format: u8, bytes: &[u8]) -> Result<(Seq<u64>, &[u8]), ReadError>
+    ensures { Gives (λ x. (x.0, x.1.now)) result
+        (reading.second_at format [] (codec.list_at codec.number_from) bytes.now) }
+{
+    if format == 1 {
+        return Ok((Seq::new(alloc), bytes));
+    }
+    list_of::<u64>(alloc, format, bytes)
+}
+
+impl Field for Message {
+    ghost spells = { spelling.message 2 };
+
+    ghost Fits = { fits.MessageInRange };
+
+    ghost reads = { reading.message_at };
+
+    #[tactic(auto, unfolding(crate::specs::Reading::message_at))]
+    fn read(alloc: Global, format: u8, bytes: &[u8]) -> Result<(Message, &[u8]), ReadError> {
+        let (bytes, rest) = text_of(alloc, bytes)?;
+        let (opens, rest) = carried_of(alloc, format, rest)?;
+        Ok((Message { bytes, opens }, rest))
+    }
+
+    fn write(&self, out: &mut Vec<u8>) -> Result<(), AllocError> {
+        put_text(out, self.bytes.as_slice())?;
+        put_list(out, &self.opens)
     }
 }
 
 impl Field for Pair {
-    ghost spells = { spelling.pair };
+    ghost spells = { spelling.pair 2 };
 
     ghost Fits = { fits.PairInRange };
 
     ghost reads = { reading.pair_at };
 
     #[tactic(auto, unfolding(crate::specs::Reading::pair_at))]
-    fn read(alloc: Global, bytes: &[u8]) -> Result<(Pair, &[u8]), ReadError> {
+    fn read(alloc: Global, format: u8, bytes: &[u8]) -> Result<(Pair, &[u8]), ReadError> {
         let (number, rest) = u64_at(bytes)?;
-        let (to0, rest) = list_of::<Seq<u8>>(alloc, rest)?;
-        let (to1, rest) = list_of::<Seq<u8>>(alloc, rest)?;
+        let (to0, rest) = list_of::<Message>(alloc, format, rest)?;
+        let (to1, rest) = list_of::<Message>(alloc, format, rest)?;
         Ok((Pair { number, to0, to1 }, rest))
     }
 
@@ -229,10 +261,10 @@ impl Field for OpenKind {
 
     ghost Fits = { fits.KindRange };
 
-    ghost reads = { reading.kind_at };
+    ghost reads = { λ _. reading.kind_at };
 
     #[tactic(auto, unfolding(crate::specs::Reading::kind_at))]
-    fn read(_alloc: Global, bytes: &[u8]) -> Result<(OpenKind, &[u8]), ReadError> {
+    fn read(_alloc: Global, _format: u8, bytes: &[u8]) -> Result<(OpenKind, &[u8]), ReadError> {
         let (kind, rest) = u64_at(bytes)?;
         let (target, rest) = u64_at(rest)?;
         let kind = match (kind, target) {
@@ -267,12 +299,12 @@ impl Field for Open {
 
     ghost Fits = { fits.OpenRange };
 
-    ghost reads = { reading.open_from };
+    ghost reads = { λ _. reading.open_from };
 
     #[tactic(auto, unfolding(crate::specs::Reading::open_from))]
-    fn read(alloc: Global, bytes: &[u8]) -> Result<(Open, &[u8]), ReadError> {
+    fn read(alloc: Global, format: u8, bytes: &[u8]) -> Result<(Open, &[u8]), ReadError> {
         let (number, rest) = u64_at(bytes)?;
-        let (kind, rest) = OpenKind::read(alloc, rest)?;
+        let (kind, rest) = OpenKind::read(alloc, format, rest)?;
         let (offset, rest) = u64_at(rest)?;
         let (flags, rest) = u32_at(rest)?;
         let open = Open {
@@ -297,10 +329,10 @@ impl Field for (u32, u64) {
 
     ghost Fits = { fits.DescriptorInRange };
 
-    ghost reads = { reading.descriptor_at };
+    ghost reads = { λ _. reading.descriptor_at };
 
     #[tactic(auto, unfolding(crate::specs::Reading::descriptor_at))]
-    fn read(_alloc: Global, bytes: &[u8]) -> Result<((u32, u64), &[u8]), ReadError> {
+    fn read(_alloc: Global, _format: u8, bytes: &[u8]) -> Result<((u32, u64), &[u8]), ReadError> {
         let (fd, rest) = u32_at(bytes)?;
         let (open, rest) = u64_at(rest)?;
         Ok(((fd, open), rest))
@@ -317,10 +349,10 @@ impl Field for ProcState {
 
     ghost Fits = { fits.StateInRange };
 
-    ghost reads = { reading.state_at };
+    ghost reads = { λ _. reading.state_at };
 
     #[tactic(auto, unfolding(crate::specs::Reading::state_at))]
-    fn read(_alloc: Global, bytes: &[u8]) -> Result<(ProcState, &[u8]), ReadError> {
+    fn read(_alloc: Global, _format: u8, bytes: &[u8]) -> Result<(ProcState, &[u8]), ReadError> {
         let (state, rest) = u64_at(bytes)?;
         let (status, rest) = u64_at(rest)?;
         match state {
@@ -348,19 +380,19 @@ impl Field for Proc {
 
     ghost Fits = { fits.ProcInRange };
 
-    ghost reads = { reading.proc_at };
+    ghost reads = { λ _. reading.proc_at };
 
     #[tactic(auto, unfolding(crate::specs::Reading::proc_at))]
-    fn read(alloc: Global, bytes: &[u8]) -> Result<(Proc, &[u8]), ReadError> {
+    fn read(alloc: Global, format: u8, bytes: &[u8]) -> Result<(Proc, &[u8]), ReadError> {
         let (pid, rest) = u32_at(bytes)?;
         let (parent, rest) = u32_at(rest)?;
-        let (state, rest) = ProcState::read(alloc, rest)?;
+        let (state, rest) = ProcState::read(alloc, format, rest)?;
         let (pc, rest) = u64_at(rest)?;
         let (regs, rest) = regs_of(rest)?;
         let (brk_base, rest) = u64_at(rest)?;
         let (brk, rest) = u64_at(rest)?;
-        let (maps, rest) = list_of::<Mapping>(alloc, rest)?;
-        let (fds, rest) = list_of::<(u32, u64)>(alloc, rest)?;
+        let (maps, rest) = list_of::<Mapping>(alloc, format, rest)?;
+        let (fds, rest) = list_of::<(u32, u64)>(alloc, format, rest)?;
         let proc = Proc {
             pid,
             parent,
@@ -384,29 +416,44 @@ impl Field for Proc {
     }
 }
 
-impl Field for PagePlace {
-    ghost spells = { spelling.page_place };
+// How many pages a run has. In format 1 it isn't written, and is 1.
+#[tactic(auto, unfolding(crate::specs::Reading::second_at))]
+fn count_of(format: u8, bytes: &[u8]) -> Result<(u64, &[u8]), ReadError>
+    ensures { Gives (λ x. (x.0, x.1.now)) result
+        (reading.second_at format 1 codec.number_from bytes.now) }
+{
+    if format == 1 {
+        return Ok((1, bytes));
+    }
+    u64_at(bytes)
+}
 
-    ghost Fits = { fits.PageFits };
+impl Field for PageRun {
+    ghost spells = { spelling.page_run 2 };
 
-    ghost reads = { reading.page_from };
+    ghost Fits = { fits.RunInRange };
 
-    #[tactic(auto, unfolding(crate::specs::Reading::page_from))]
-    fn read(_alloc: Global, bytes: &[u8]) -> Result<(PagePlace, &[u8]), ReadError> {
+    ghost reads = { reading.run_at };
+
+    #[tactic(auto, unfolding(crate::specs::Reading::run_at))]
+    fn read(_alloc: Global, format: u8, bytes: &[u8]) -> Result<(PageRun, &[u8]), ReadError> {
         let (object, rest) = u64_at(bytes)?;
-        let (page, rest) = u64_at(rest)?;
+        let (first, rest) = u64_at(rest)?;
+        let (count, rest) = count_of(format, rest)?;
         let (block, rest) = u64_at(rest)?;
-        let place = PagePlace {
+        let run = PageRun {
             object,
-            page,
+            first,
+            count,
             block,
         };
-        Ok((place, rest))
+        Ok((run, rest))
     }
 
     fn write(&self, out: &mut Vec<u8>) -> Result<(), AllocError> {
         put_u64(out, self.object)?;
-        put_u64(out, self.page)?;
+        put_u64(out, self.first)?;
+        put_u64(out, self.count)?;
         put_u64(out, self.block)
     }
 }

@@ -9,6 +9,18 @@ pub struct PagePlace {
     pub block: u64,
 }
 
+/// Pages of an object that follow each other, in blocks of the disk that follow each other.
+#[derive(Clone, Copy, Debug, PartialEq, Eq)]
+pub struct PageRun {
+    pub object: u64,
+    /// Its first page.
+    pub first: u64,
+    /// How many pages it has.
+    pub count: u64,
+    /// The block of its first page.
+    pub block: u64,
+}
+
 /// What the record of a checkpoint says: the group without the bytes of its pages, and where those
 /// pages lie that aren't all zero.
 #[derive(Debug, Drop)]

@@ -1,51 +1,69 @@
 ghost use Rattle.std.specs.Prelude.{◌≡◌, ◌++◌, ◌↔◌, ◌<◌, ◌+◌, ℕ, length, List, IsTrue, IfOk, IfSome, MatchOption, OnOk};
 ghost use Rattle.group_defs.specs.Output.{last_position};
+ghost use Rattle.ckpt_chain.specs.Slot.{IsFormat};
+ghost use Rattle.group_defs.specs.Order.{ListsRise};
 ghost use Rattle.std.specs.List.{AllByRecursion};
 ghost use Rattle.group_defs.specs.declared.frame.Frame.{Frame};
 ghost use Rattle.ckpt_records.specs.declared.meta.PagePlace.{PagePlace};
 ghost use Rattle.ckpt_records.specs.Gives.{Gives};
+ghost use Rattle.ckpt_records.specs.Listed.{AreListed, RunEnds};
 ghost use Rattle.ckpt_records.specs.Reading.{record_at, parts_at, head_at, parts_of as frame_parts};
-ghost use Rattle.ckpt_records.specs.Spelling.{record_bytes, magic, first_fields, middle};
+ghost use Rattle.ckpt_records.specs.Runs.{pages_in};
+ghost use Rattle.ckpt_records.specs.Spelling.{record_bytes, listed_runs, magic, first_fields, middle};
 ghost use Rattle.ckpt_records.specs.Fits.{RecordRange, FrontRange, MiddleRange, HasEnd, IsInForm};
-ghost use Rattle.ckpt_records.specs.Spells.{Spells, IsOrderly, IsPagePlace, IsPageOf, PagesRise};
+ghost use Rattle.ckpt_records.specs.Spells.{Spells, IsOrderly};
 
 use crate::counted::{list_of, put_items, put_list};
 use crate::error::ReadError;
 use crate::field::Field;
-use crate::meta::{Meta, PagePlace};
+use crate::listed::are_listed;
+use crate::meta::{Meta, PagePlace, PageRun};
 use crate::numbers::u64_at;
+use crate::runs::{pages_in, runs_of};
 use group_defs::{
     FileRec, Frame, Next, ObjectRec, Open, OpenKind, Out, Pair, Pipe, Proc, lists_rise,
 };
-use lists::NoMemory;
+use lists::{NoMemory, Seq};
 use std::alloc::{AllocError, Global};
 
-/// The number that is spelled `AURMETA1`.
-const MAGIC: u64 = 3_549_210_637_971_379_521;
+/// The number that is spelled `AURMETA0`. A record begins with it and its format in the last byte.
+const MAGIC: u64 = 3_477_153_043_933_451_585;
 
-fn head_of(bytes: &[u8]) -> Result<(u64, &[u8]), ReadError>
-    ensures { Gives (λ x. (x.0, x.1.now)) result (head_at bytes.now) }
+/// The pages of a valid group are no more: 65,536 of memory, and 256 of each of 64 files.
+const MOST_PAGES: u64 = 81_920;
+
+/// A record as it is read: a frame, and the runs by which pages are listed.
+#[derive(Drop)]
+struct Listing {
+    frame: Frame,
+    runs: Seq<PageRun>,
+}
+
+fn head_of(format: u8, bytes: &[u8]) -> Result<(u64, &[u8]), ReadError>
+    requires { format < 128 }
+    ensures { Gives (λ x. (x.0, x.1.now)) result (head_at format bytes.now) }
 {
     let (number, rest) = u64_at(bytes)?;
-    if number != MAGIC {
+    if number != MAGIC + u64::from(format) * (1 << 56) {
         return Err(ReadError::Nothing);
     }
     Ok((number, rest))
 }
 
 #[tactic(auto, unfolding(crate::specs::Reading::parts_at))]
-fn parts_of(alloc: Global, bytes: &[u8]) -> Result<(Meta, &[u8]), ReadError>
-    ensures { Gives (λ x. (frame_parts x.0.frame x.0.pages, x.1.now)) result (parts_at bytes.now) }
+fn parts_of(alloc: Global, format: u8, bytes: &[u8]) -> Result<(Listing, &[u8]), ReadError>
+    ensures { Gives (λ x. (frame_parts x.0.frame x.0.runs, x.1.now)) result
+        (parts_at format bytes.now) }
 {
-    let (next, rest) = Next::read(alloc, bytes)?;
-    let (out, rest) = Out::read(alloc, rest)?;
-    let (objects, rest) = list_of::<ObjectRec>(alloc, rest)?;
-    let (files, rest) = list_of::<FileRec>(alloc, rest)?;
-    let (pipes, rest) = list_of::<Pipe>(alloc, rest)?;
-    let (pairs, rest) = list_of::<Pair>(alloc, rest)?;
-    let (opens, rest) = list_of::<Open>(alloc, rest)?;
-    let (procs, rest) = list_of::<Proc>(alloc, rest)?;
-    let (pages, rest) = list_of::<PagePlace>(alloc, rest)?;
+    let (next, rest) = Next::read(alloc, format, bytes)?;
+    let (out, rest) = Out::read(alloc, format, rest)?;
+    let (objects, rest) = list_of::<ObjectRec>(alloc, format, rest)?;
+    let (files, rest) = list_of::<FileRec>(alloc, format, rest)?;
+    let (pipes, rest) = list_of::<Pipe>(alloc, format, rest)?;
+    let (pairs, rest) = list_of::<Pair>(alloc, format, rest)?;
+    let (opens, rest) = list_of::<Open>(alloc, format, rest)?;
+    let (procs, rest) = list_of::<Proc>(alloc, format, rest)?;
+    let (runs, rest) = list_of::<PageRun>(alloc, format, rest)?;
     let frame = Frame {
         procs,
         objects,
@@ -56,70 +74,91 @@ fn parts_of(alloc: Global, bytes: &[u8]) -> Result<(Meta, &[u8]), ReadError>
         next,
         out,
     };
-    Ok((Meta { frame, pages }, rest))
+    Ok((Listing { frame, runs }, rest))
 }
 
 #[tactic(auto, unfolding(crate::specs::Reading::record_at))]
-fn record_of(alloc: Global, bytes: &[u8]) -> Result<Meta, ReadError>
-    ensures { Gives (λ m. (m.frame, m.pages)) result (record_at bytes.now) }
+fn record_of(alloc: Global, format: u8, bytes: &[u8]) -> Result<Listing, ReadError>
+    requires { format < 128 }
+    ensures { Gives (λ m. (m.frame, m.runs)) result (record_at format bytes.now) }
 {
-    let (_, rest) = head_of(bytes)?;
-    let (meta, rest) = parts_of(alloc, rest)?;
+    let (_, rest) = head_of(format, bytes)?;
+    let (listing, rest) = parts_of(alloc, format, rest)?;
     if !rest.is_empty() {
         return Err(ReadError::Nothing);
     }
-    Ok(meta)
+    Ok(listing)
 }
 
-#[tactic(auto, unfolding(crate::specs::Spells::IsPageOf))]
-fn is_page_of(frame: &Frame, p: &PagePlace) -> bool
-    ensures { IsTrue result ↔ IsPageOf frame.now p.now }
+fn is_orderly(format: u8, blocks: u64, listing: &Listing) -> bool
+    ensures { IsTrue result ↔ (ListsRise listing.now.frame
+        × AreListed format blocks listing.now.frame.objects listing.now.runs) }
 {
-    let objects = frame.objects.as_slice();
-    objects
-        .iter()
-        .any(|o| o.number == p.object && p.page < o.pages)
+    let objects = listing.frame.objects.as_slice();
+    lists_rise(&listing.frame) && are_listed(format, blocks, objects, listing.runs.as_slice())
 }
 
-#[tactic(auto, unfolding(crate::specs::Spells::IsPagePlace))]
-fn is_placed(frame: &Frame, blocks: u64, p: &PagePlace) -> bool
-    ensures { IsTrue result ↔ IsPagePlace frame.now blocks p.now }
+fn meta_of(alloc: Global, listing: Listing) -> Result<Meta, AllocError>
+    requires { AllByRecursion RunEnds listing.runs }
+    ensures { IfOk result (λ m. (m.frame ≡ listing.frame) × (m.pages ≡ pages_in listing.runs)) }
 {
-    is_page_of(frame, p) && p.block >= 2 && p.block < blocks
+    let Listing { frame, runs } = listing;
+    let pages = pages_in(alloc, runs.as_slice())?;
+    Ok(Meta {
+        frame,
+        pages: Seq::of(pages),
+    })
 }
 
-fn pages_rise(pages: &[PagePlace]) -> bool
-    ensures { IsTrue result ↔ PagesRise pages.now }
+// Whether records have this format.
+fn is_format(format: u8) -> bool
+    ensures { IsTrue result ↔ IsFormat format }
 {
-    pages.is_sorted_by(|p, q| p.object < q.object || p.object == q.object && p.page < q.page)
+    format == 1 || format == 2
 }
 
-fn is_orderly(meta: &Meta, blocks: u64) -> bool
-    ensures { IsTrue result ↔ IsOrderly blocks meta.now.frame meta.now.pages }
-{
-    let pages = meta.pages.as_slice();
-    lists_rise(&meta.frame)
-        && pages_rise(pages)
-        && pages.iter().all(|p| is_placed(&meta.frame, blocks, p))
+// Whether runs stand for more pages than any valid group has. They may name the same blocks, so few bytes can stand for many.
+fn are_too_many(runs: &[PageRun]) -> bool {
+    let mut left = MOST_PAGES;
+    for run in runs {
+        if run.count > left {
+            return true;
+        }
+        left -= run.count;
+    }
+    false
 }
 
-/// What the bytes spell on a disk of so many blocks.
-pub fn read_meta(alloc: Global, bytes: &[u8], blocks: u64) -> Result<Option<Meta>, NoMemory>
+/// What the bytes spell in a format, 1 or 2, on a disk of so many blocks. In another format they spell nothing. A record of
+/// format 2 of more pages than any valid group has is want of memory.
+pub fn read_meta(
+    alloc: Global,
+    format: u8,
+    bytes: &[u8],
+    blocks: u64,
+) -> Result<Option<Meta>, NoMemory>
     // What is read is spelled so.
-    ensures found { IfOk result (λ r. IfSome r (λ m. Spells bytes.now blocks m.frame m.pages)) }
+    ensures found { IfOk result (λ r. IfSome r
+        (λ m. Spells format bytes.now blocks m.frame m.pages)) }
     // What is spelled so is read, and nothing else.
-    ensures only { (f : Frame) (pages : List PagePlace) → Spells bytes.now blocks f pages
+    ensures only { (f : Frame) (pages : List PagePlace) → Spells format bytes.now blocks f pages
         → IfOk result (λ r. MatchOption r ⊥ (λ m. (m.frame ≡ f) × (m.pages ≡ pages))) }
 {
-    match record_of(alloc, bytes) {
+    if !is_format(format) {
+        return Ok(None);
+    }
+    match record_of(alloc, format, bytes) {
         Err(ReadError::NoMemory) => Err(NoMemory),
         Err(ReadError::Nothing) => Ok(None),
-        Ok(meta) => {
-            if is_orderly(&meta, blocks) {
-                Ok(Some(meta))
-            } else {
-                Ok(None)
+        Ok(listing) => {
+            if !is_orderly(format, blocks, &listing) {
+                return Ok(None);
             }
+            if format == 2 && are_too_many(listing.runs.as_slice()) {
+                return Err(NoMemory);
+            }
+            let meta = meta_of(alloc, listing)?;
+            Ok(Some(meta))
         }
     }
 }
@@ -157,13 +196,13 @@ fn have_ends(opens: &[Open]) -> bool
     true
 }
 
-/// The one spelling of a frame and a list of pages. `is_in_form` tests what it needs; the record is read
-/// again where the lists rise and each page has its place.
+/// The one spelling of a frame and a list of pages in format 2. `is_in_form` tests what it needs; the record is
+/// read again where the lists rise and each page has its place.
 pub fn write_meta(alloc: Global, frame: &Frame, pages: &[PagePlace]) -> Result<Vec<u8>, NoMemory>
     requires { IsInForm frame.now }
-    ensures bytes { IfOk result (λ v. v.items ≡ record_bytes frame.now pages.now) }
+    ensures bytes { IfOk result (λ v. v.items ≡ record_bytes 2 frame.now pages.now) }
     ensures spelled { IfOk result (λ v. (blocks : ℕ) → IsOrderly blocks frame.now pages.now
-        → Spells v.items blocks frame.now pages.now) }
+        → Spells 2 v.items blocks frame.now pages.now) }
 {
     match put_record(alloc, frame, pages) {
         Ok(out) => Ok(out),
@@ -171,29 +210,30 @@ pub fn write_meta(alloc: Global, frame: &Frame, pages: &[PagePlace]) -> Result<V
     }
 }
 
-#[tactic(auto, unfolding(crate::specs::Spelling::record_bytes))]
+#[tactic(auto, unfolding(crate::specs::Spelling::run_record))]
 fn put_record(alloc: Global, frame: &Frame, pages: &[PagePlace]) -> Result<Vec<u8>, AllocError>
-    ensures bytes { IfOk result (λ v. v.items ≡ record_bytes frame.now pages.now) }
-    ensures range { OnOk result (RecordRange frame.now pages.now) }
+    ensures bytes { IfOk result (λ v. v.items ≡ record_bytes 2 frame.now pages.now) }
+    ensures range { OnOk result (RecordRange frame.now (listed_runs 2 pages.now)) }
 {
+    let runs = runs_of(alloc, pages)?;
     let mut out = Vec::new(alloc);
     put_front(&mut out, frame)?;
     put_middle(&mut out, frame)?;
     put_list(&mut out, &frame.procs)?;
-    put_items(&mut out, pages)?;
+    put_items(&mut out, runs.as_slice())?;
     Ok(out)
 }
 
 #[tactic(auto, unfolding(crate::specs::Spelling::magic))]
 fn put_magic(out: &mut Vec<u8>) -> Result<(), AllocError>
-    ensures { OnOk result (out.new.items ≡ out.old.items ++ magic) }
+    ensures { OnOk result (out.new.items ≡ out.old.items ++ magic 2) }
 {
-    out.extend_from_slice(b"AURMETA1")
+    out.extend_from_slice(b"AURMETA2")
 }
 
 #[tactic(auto, unfolding(crate::specs::Spelling::first_fields))]
 fn put_front(out: &mut Vec<u8>, frame: &Frame) -> Result<(), AllocError>
-    ensures bytes { OnOk result (out.new.items ≡ out.old.items ++ first_fields frame.now) }
+    ensures bytes { OnOk result (out.new.items ≡ out.old.items ++ first_fields 2 frame.now) }
     ensures range { OnOk result (FrontRange frame.now) }
 {
     put_magic(out)?;
@@ -205,7 +245,7 @@ fn put_front(out: &mut Vec<u8>, frame: &Frame) -> Result<(), AllocError>
 
 #[tactic(auto, unfolding(crate::specs::Spelling::middle))]
 fn put_middle(out: &mut Vec<u8>, frame: &Frame) -> Result<(), AllocError>
-    ensures bytes { OnOk result (out.new.items ≡ out.old.items ++ middle frame.now) }
+    ensures bytes { OnOk result (out.new.items ≡ out.old.items ++ middle 2 frame.now) }
     ensures range { OnOk result (MiddleRange frame.now) }
 {
     put_list(out, &frame.pipes)?;

@@ -2,7 +2,7 @@
 ghost use Rattle.std.specs.Prelude.{◌≡◌, ◌⊎◌, ◌↔◌, ◌+◌, ◌*◌, ◌^◌, ◌<◌, ◌≤◌, ◌∷◌, ℕ, Bool, List, Some, length, map, slice_index, IsTrue};
 ghost use Rattle.std.specs.List.{AllByRecursion};
 ghost use Rattle.lists.specs.Bytes.{SameOutside};
-ghost use Rattle.ckpt_chain.specs.Slot.{gate_place, open_body, other};
+ghost use Rattle.ckpt_chain.specs.Slot.{gate_place, IsFormat, open_body, other};
 ghost use Rattle.ckpt_chain.specs.declared.slot.Slot.{Slot};
 ghost use Rattle.ckpt_chain.specs.declared.slot.SlotBody.{SlotBody};
 ghost use Rattle.commit_gate.specs.Commit.{block_range};
@@ -25,13 +25,13 @@ pub fn unfinished_keeps_the_other_slot()
         → open_body image (gate_place (other target)) ≡ open_body r (gate_place (other target)) }
 {}
 
-/// After a commit the target is open and says the body, the other slot says what it said, and nothing differs but the
-/// blocks, the body and the gate.
+/// After a commit of a body of format 1 or 2 the target is open and says the body, the other slot says what it said, and
+/// nothing differs but the blocks, the body and the gate.
 pub fn finished_opens_the_target()
     ensures target { (target : Slot) (blocks : List Block) (body : SlotBody) (count : ℕ)
         (r : List ℕ) → AllByRecursion (IsDataBlock count) blocks → 16 ≤ count
-        → length r ≡ 4096 * count → 1 ≤ body.epoch → body.epoch < 2 ^ 64 → body.first < 2 ^ 64
-        → body.length < 2 ^ 64
+        → length r ≡ 4096 * count → IsFormat body.format → 1 ≤ body.epoch → body.epoch < 2 ^ 64
+        → body.first < 2 ^ 64 → body.length < 2 ^ 64
         → open_body (finished target blocks body r) (gate_place target) ≡ Some body }
     ensures other { (target : Slot) (blocks : List Block) (body : SlotBody) (count : ℕ)
         (r : List ℕ) → AllByRecursion (IsDataBlock count) blocks → 16 ≤ count

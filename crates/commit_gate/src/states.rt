@@ -4,11 +4,11 @@ ghost use Rattle.dev_traits.specs.Commits.{wrote, synced, unchanged};
 ghost use Rattle.dev_traits.specs.Counts.{one_more_if, HasCause, Rose, one_more};
 ghost use Rattle.dev_traits.specs.Disk.{OnlyReading, Puts, CommitsBy};
 ghost use Rattle.dev_traits.specs.Since.{LeavesOnly};
-ghost use Rattle.ckpt_chain.specs.Slot.{gate_place, body_bytes};
-ghost use Rattle.commit_gate.specs.Commit.{IsBeforeLaid, IsTornAt, Begins, put_down, FailsToPut};
+ghost use Rattle.ckpt_chain.specs.Slot.{gate_place, IsFormat, body_bytes};
+ghost use Rattle.commit_gate.specs.Commit.{IsBeforeLaid, IsTornAt, PassesOver, Begins, put_down, FailsToPut};
 
 use crate::written::Written;
-use ckpt_chain::{Slot, SlotBody};
+use ckpt_chain::{Slot, SlotBody, slot_text};
 use dev_traits::{Disk, Failed};
 use std::snapshot::Snapshot;
 
@@ -244,6 +244,7 @@ fn put_slot<D: Disk>(disk: &mut D, place: u64, bytes: &[u8]) -> Result<(), Faile
     ensures blocks { (D.view disk.new).blocks ≡ (D.view disk.old).blocks }
     ensures images { LeavesOnly (D.view disk.old) (D.view disk.new)
         (IsTornAt place (length bytes.now) (D.view disk.old).reading) }
+    ensures time { PassesOver (D.view disk.old) (D.view disk.new) }
     ensures commits { OnOk result
         (CommitsBy (put_down place bytes.now) (D.view disk.old) (D.view disk.new)) }
     ensures commits_err { OnErr result
@@ -256,8 +257,10 @@ fn put_slot<D: Disk>(disk: &mut D, place: u64, bytes: &[u8]) -> Result<(), Faile
 }
 
 impl<D: Disk> Laid<D> {
-    /// Writes the slot's body, bytes 8 to 39 of its block, and syncs.
+    /// Writes the slot's body, bytes 8 to 39 of its block, and syncs. New checkpoints are in format 2.
     pub fn body(self, body: SlotBody) -> Result<Bodied<D>, BadDisk<D>>
+        requires { body.format ≡ 2 }
+
         ensures same { IfOk result
             (λ bodied. (bodied.target ≡ self.target)
             × ((D.view bodied.disk).blocks ≡ (D.view self.disk).blocks)) }
@@ -273,6 +276,10 @@ impl<D: Disk> Laid<D> {
         ensures images_err { IfErr result
             (λ bad. LeavesOnly (D.view self.disk) (D.view bad.disk)
             (IsTornAt (gate_place self.target + 8) 32 (D.view self.disk).reading)) }
+        ensures time { IfOk result
+            (λ bodied. PassesOver (D.view self.disk) (D.view bodied.disk)) }
+        ensures time_err { IfErr result
+            (λ bad. PassesOver (D.view self.disk) (D.view bad.disk)) }
 
         ensures commits { IfOk result
             (λ bodied. CommitsBy (put_down (gate_place self.target + 8) (body_bytes body))
@@ -315,6 +322,10 @@ impl<D: Disk> Bodied<D> {
         ensures images_err { IfErr result
             (λ bad. LeavesOnly (D.view self.disk) (D.view bad.disk)
             (IsTornAt (gate_place self.target) 1 (D.view self.disk).reading)) }
+        ensures time { IfOk result
+            (λ opened. PassesOver (D.view self.disk) (D.view opened.disk)) }
+        ensures time_err { IfErr result
+            (λ bad. PassesOver (D.view self.disk) (D.view bad.disk)) }
 
         ensures commits { IfOk result
             (λ opened. CommitsBy (put_down (gate_place self.target) (1 ∷ [])) (D.view self.disk)
@@ -351,10 +362,11 @@ impl<D: Disk> Opened<D> {
 }
 
 fn bytes_of(body: SlotBody) -> [u8; 32]
+    requires { IsFormat body.format }
     ensures { result ≡ body_bytes body }
 {
     let mut bytes = [0; 32];
-    bytes[..8].copy_from_slice(b"AURSLOT1");
+    bytes[..8].copy_from_slice(&slot_text(body.format));
     bytes[8..16].copy_from_slice(&body.epoch.to_le_bytes());
     bytes[16..24].copy_from_slice(&body.first.to_le_bytes());
     bytes[24..].copy_from_slice(&body.length.to_le_bytes());

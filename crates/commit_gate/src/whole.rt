@@ -7,7 +7,7 @@ ghost use Rattle.dev_traits.specs.Counts.{Rose};
 ghost use Rattle.dev_traits.specs.Disk.{OnlyReading};
 ghost use Rattle.dev_traits.specs.Since.{LeavesOnly};
 ghost use Rattle.ckpt_chain.specs.Slot.{gate_place};
-ghost use Rattle.commit_gate.specs.Commit.{IsBeforeLaid, IsTornAt};
+ghost use Rattle.commit_gate.specs.Commit.{IsBeforeLaid, IsTornAt, PassesOver};
 ghost use Rattle.commit_gate.specs.Whole.{IsDataBlock, numbers, with_blocks, laid_on, finished, IsDuring, StepsInOrder, FailsInOrder, Reads, calls_more, UpTo, closing, write_calls, AddsCommit, AddsNone};
 ghost use Rattle.commit_gate.specs.Parts.{IsSlotOpening, gathered, whole_commit, Goes, HasFailed, GatesLast, Within, stays};
 
@@ -109,6 +109,7 @@ fn fill<D: Disk>(
 
 // Writes the body, and opens the gate.
 fn open_gate<D: Disk>(laid: Laid<D>, body: SlotBody) -> Result<D, BadDisk<D>>
+    requires { body.format ≡ 2 }
     ensures done { IfOk result
         (λ d. Reads (finished laid.target [] body) (D.view laid.disk) (D.view d)) }
     ensures only { IfOk result (λ d. OnlyReading (D.view d)) }
@@ -121,6 +122,8 @@ fn open_gate<D: Disk>(laid: Laid<D>, body: SlotBody) -> Result<D, BadDisk<D>>
         (λ bad. LeavesOnly (D.view laid.disk) (D.view bad.disk)
         (IsTornAt (gate_place laid.target + 8) 32 (D.view laid.disk).reading)
         ⊎ GatesLast laid.target body (D.view laid.disk) (D.view bad.disk)) }
+    ensures time { IfOk result (λ d. PassesOver (D.view laid.disk) (D.view d)) }
+    ensures time_err { IfErr result (λ bad. PassesOver (D.view laid.disk) (D.view bad.disk)) }
     ensures fails { IfErr result
         (λ bad. (held : List Block)
         → HasFailed (IsSlotOpening laid.target body (D.view laid.disk).reading) 2 (gathered held)
@@ -137,8 +140,8 @@ fn open_gate<D: Disk>(laid: Laid<D>, body: SlotBody) -> Result<D, BadDisk<D>>
     Ok(opened.into_disk())
 }
 
-/// Writes the blocks, syncs, and opens the target with this body. `close` says whether the target's gate
-/// reads 1. Where one number stands twice, the later bytes are kept.
+/// Writes the blocks, syncs, and opens the target with this body, which is of format 2. `close` says
+/// whether the target's gate reads 1. Where one number stands twice, the later bytes are kept.
 pub fn commit<D: Disk>(
     disk: D,
     target: Slot,
@@ -151,6 +154,7 @@ pub fn commit<D: Disk>(
     requires gate { ForSome (D.view disk).reading
         (λ r. IsTrue close ↔ (slice_index r (gate_place target) ≡ 1)) }
     requires placed { AllByRecursion (IsDataBlock (D.view disk).blocks) blocks.now }
+    requires format { body.format ≡ 2 }
 
     ensures done { IfOk result
         (λ d. Reads (finished target blocks.now body) (D.view disk) (D.view d)) }

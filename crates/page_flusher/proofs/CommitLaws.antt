@@ -10,11 +10,11 @@ use Rattle.lists.specs.Bytes.{SameOutside, IsOutside, put, put_same, put_within,
 use Rattle.group_defs.specs.Group.{Group}
 use Rattle.group_defs.specs.declared.frame.Frame.{Frame}
 use Rattle.ckpt_chain.specs.Chain.{◌>>=◌, block, link, payload, chain_at, whole_at, stream_at, Has, HasBlocks, SameBlocks}
-use Rattle.ckpt_chain.specs.Slot.{gate_place, open_body, newer, newest, other, body_bytes}
+use Rattle.ckpt_chain.specs.Slot.{gate_place, IsFormat, open_body, newer, newest, other, body_bytes}
 use Rattle.ckpt_chain.specs.declared.slot.Slot.{Slot}
 use Rattle.ckpt_chain.specs.declared.slot.Slot.TheVariants.{A, B}
 use Rattle.ckpt_chain.specs.declared.slot.SlotBody.{SlotBody}
-use Rattle.ckpt_records.proofs.Members.{all_has, from_map, in_left, in_right}
+use Rattle.ckpt_chain.specs.MemberLaws.{all_has, from_map, in_left, in_right}
 use Rattle.ckpt_records.specs.Holds.{HoldsAt, block_numbers, block_count}
 use Rattle.ckpt_records.specs.Spells.{IsPagePlace as IsPagePlaced}
 use Rattle.ckpt_records.specs.declared.meta.PagePlace.{PagePlace}
@@ -28,7 +28,7 @@ use Rattle.page_flusher.specs.CommitPlan.{Avoids, HasNewestOrNext}
 use Rattle.commit_gate.specs.ImageLaws.{below_blocks, blocks_same}
 use Rattle.page_flusher.specs.KeptBlocks.{DescribesGates, gate_in}
 use Rattle.page_flusher.specs.declared.kept.KeptBlocks.{KeptBlocks}
-use Rattle.ckpt_records.proofs.Ordered.{IsOrdered}
+use Rattle.tables.proofs.Ordered.{IsOrdered}
 
 -- ---- the newest slot
 
@@ -189,9 +189,9 @@ keeps_or_holds law count kept h pages metas blocks body r image size keeps avoid
 -- ---- the slot of a finished commit
 
 module _ (count : ℕ) (blocks : List Block) (body : SlotBody) (r : List ℕ) (least : 16 ≤ count) (size : length r ≡ 4096 * count) (placed : AllByRecursion (IsDataBlock count) blocks)
-    (epoch64 : body.epoch < 2 ^ 64) (first64 : body.first < 2 ^ 64) (length64 : body.length < 2 ^ 64) where
+    (format : IsFormat body.format) (epoch64 : body.epoch < 2 ^ 64) (first64 : body.first < 2 ^ 64) (length64 : body.length < 2 ^ 64) where
   says : (target : Slot) → 1 ≤ body.epoch → open_body (finished target blocks body r) (gate_place target) ≡ Some body
-  says target some = finished_slot target blocks count placed r body least size some epoch64 first64 length64
+  says target some = finished_slot target blocks count placed r body least size format some epoch64 first64 length64
 
   newest_after : (kept : NewestCheckpoint) → HasNewest r kept → body.epoch ≡ epoch_after kept → newest (finished (target_after kept) blocks body r) ≡ Some (target_after kept, body)
   newest_after nothing keeps is =
@@ -206,9 +206,9 @@ module _ (count : ℕ) (blocks : List Block) (body : SlotBody) (r : List ℕ) (l
       a_newest (open_body (finished A blocks body r) (gate_place A)) (open_body (finished A blocks body r) (gate_place B)) body
       (says A (omega (arith, is)), λ x some. omega (arith, ap (λ (y : SlotBody). y.epoch) (same_Some keeps.body x (sym before ∙ some)), keeps.epoch_is, is))
 
-pub committed_newest : (count : ℕ) (kept : NewestCheckpoint) (blocks : List Block) (body : SlotBody) (r : List ℕ) → 16 ≤ count → length r ≡ 4096 * count → HasNewest r kept → Avoids count kept blocks → body.epoch ≡ epoch_after kept
+pub committed_newest : (count : ℕ) (kept : NewestCheckpoint) (blocks : List Block) (body : SlotBody) (r : List ℕ) → 16 ≤ count → length r ≡ 4096 * count → HasNewest r kept → Avoids count kept blocks → IsFormat body.format → body.epoch ≡ epoch_after kept
     → body.epoch < 2 ^ 64 → body.first < 2 ^ 64 → body.length < 2 ^ 64 → newest (finished (target_after kept) blocks body r) ≡ Some (target_after kept, body)
-committed_newest count kept blocks body r least size keeps avoids is epoch first len = newest_after count blocks body r least size avoids.placed epoch first len kept keeps is
+committed_newest count kept blocks body r least size keeps avoids format is epoch first len = newest_after count blocks body r least size avoids.placed format epoch first len kept keeps is
 
 -- a block that was put
 block_put : (image : List ℕ) (n : ℕ) (bytes : List ℕ) → length bytes ≡ 4096 → 4096 * n + length bytes ≤ length image → block (put image (4096 * n) bytes) n ≡ bytes

@@ -10,8 +10,8 @@ use Rattle.block_alloc.specs.Free.{MayBeFree, free_count, is_free, with_used, Is
 use Rattle.ckpt_chain.specs.Chain.{Has}
 use Rattle.ckpt_records.specs.Cost.{free_blocks, is_used}
 use Rattle.std.proofs.lemmas.List.{get_or-set_same, get_or-set_other, get_or_past, length-set}
-use Rattle.ckpt_records.proofs.Members.{all_has, in_left, in_right, place_of}
-use Rattle.ckpt_records.proofs.Ordered.{each_append, each_weaker, ordered_append, ordered_of_pairs, pairs_of_ordered}
+use Rattle.ckpt_chain.specs.MemberLaws.{all_has, in_left, in_right, place_of}
+use Rattle.tables.proofs.Ordered.{each_append, each_weaker, ordered_append, ordered_of_pairs, pairs_of_ordered}
 use Rattle.page_flusher.specs.Taking.{AreTaken}
 
 -- ---- whether a block is in use

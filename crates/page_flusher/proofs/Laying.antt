@@ -12,16 +12,18 @@ use Rattle.ckpt_chain.specs.declared.slot.SlotBody.{SlotBody}
 use Rattle.group_defs.specs.declared.frame.Frame.{Frame}
 use Rattle.ckpt_records.specs.Codec.{number, with_count}
 use Rattle.ckpt_records.specs.Holds.{block_numbers, listed_page}
-use Rattle.ckpt_records.specs.Spelling.{page_place, proc, first_fields, middle, record_bytes}
+use Rattle.ckpt_records.specs.Runs.{lone_run, runs_of}
+use Rattle.ckpt_records.specs.Spelling.{page_run, proc, first_fields, middle, run_record, record_bytes}
 use Rattle.ckpt_records.specs.declared.meta.PagePlace.{PagePlace}
 use Rattle.commit_gate.specs.declared.whole.Block.{Block}
 use Rattle.page_flusher.specs.Plans.{IsLaidOut, in_block, placed}
-use Rattle.ckpt_records.specs.Cost.{unplaced}
+use Rattle.ckpt_records.specs.Cost.{metas_of, unplaced}
+use Rattle.ckpt_records.specs.declared.meta.PageRun.{PageRun}
 use Rattle.ckpt_records.specs.Pages.{written_page}
 use Rattle.page_flusher.specs.Taking.{Carry, IsLaidAs, IsLaidIn}
 use Rattle.page_flusher.specs.declared.plan.Layout.{Layout}
 use Rattle.ckpt_records.specs.declared.meta.Page.{Page}
-use Rattle.ckpt_records.proofs.Ordered.{each_weaker}
+use Rattle.tables.proofs.Ordered.{each_weaker}
 
 -- ---- pages in their places
 
@@ -54,34 +56,43 @@ placed_all pages blocks i same past = ap (map in_block) (take_all i (zip pages b
 
 -- ---- the length of a record
 
-place_size : (p : PagePlace) → length (page_place p) ≡ 24
+run_size : (r : PageRun) → length (page_run 2 r) ≡ 32
 unfolding number
-place_size p = refl
+run_size r = refl
 
-all_sizes : (xs : List PagePlace) → length (flat_map page_place xs) ≡ 24 * length xs
+all_sizes : (runs : List PageRun) → length (flat_map (page_run 2) runs) ≡ 32 * length runs
 all_sizes [] = omega arith
-all_sizes (x ∷ xs) =
-    let e : length (flat_map page_place (x ∷ xs)) ≡ length (page_place x) + length (flat_map page_place xs) = ap length (flat_map-cons page_place x xs) ∙ length-append (page_place x) (flat_map page_place xs) in
-    grind (arith, e, place_size x, all_sizes xs)
+all_sizes (r ∷ runs) =
+    let e : length (flat_map (page_run 2) (r ∷ runs)) ≡ length (page_run 2 r) + length (flat_map (page_run 2) runs) = ap length (flat_map-cons (page_run 2) r runs) ∙ length-append (page_run 2 r) (flat_map (page_run 2) runs) in
+    omega (arith, e, run_size r, all_sizes runs)
 
 number_size : (n : ℕ) → length (number n) ≡ 8
 unfolding number
 number_size n = refl
 
-places_size : (xs : List PagePlace) → length (with_count page_place xs) ≡ 8 + 24 * length xs
-places_size xs = omega (arith, length-append (number (length xs)) (flat_map page_place xs), number_size (length xs), all_sizes xs)
+runs_size : (runs : List PageRun) → length (with_count (page_run 2) runs) ≡ 8 + 32 * length runs
+runs_size runs = omega (arith, length-append (number (length runs)) (flat_map (page_run 2) runs), number_size (length runs), all_sizes runs)
 
-same_behind : (xs ys zs : List ℕ) → length ys ≡ length zs → length (xs ++ ys) ≡ length (xs ++ zs)
-same_behind xs ys zs same = length-append xs ys ∙ ap (λ n. length xs + n) same ∙ sym (length-append xs zs)
+longer_behind : (xs ys zs : List ℕ) (k : ℕ) → length ys ≡ length zs + k → length (xs ++ ys) ≡ length (xs ++ zs) + k
+longer_behind xs ys zs k more = omega (arith, length-append xs ys, length-append xs zs, more)
 
-record_size : (f : Frame) (ps qs : List PagePlace) → length ps ≡ length qs → length (record_bytes f ps) ≡ length (record_bytes f qs)
-unfolding record_bytes
-record_size f ps qs same =
-    same_behind (first_fields f) _ _ (same_behind (middle f) _ _ (same_behind (with_count proc f.procs) _ _ (places_size ps ∙ ap (λ n. 8 + 24 * n) same ∙ sym (places_size qs))))
+record_size : (f : Frame) (runs : List PageRun) → length (run_record 2 f runs) ≡ length (run_record 2 f []) + 32 * length runs
+unfolding run_record
+record_size f runs =
+    longer_behind (first_fields 2 f) _ _ _ (longer_behind (middle 2 f) _ _ _ (longer_behind (with_count proc f.procs) (with_count (page_run 2) runs) (with_count (page_run 2) []) (32 * length runs) (omega (arith, runs_size runs, runs_size []))))
 
--- a record's length is the same wherever its pages lie
-pub size_anywhere : (f : Frame) (pages : List Page) (blocks : List ℕ) → length blocks ≡ length pages → length (record_bytes f (placed pages blocks)) ≡ length (record_bytes f (map unplaced (map written_page pages)))
-size_anywhere f pages blocks enough = record_size f (placed pages blocks) (map unplaced (map written_page pages)) (length_placed pages blocks enough ∙ enough ∙ sym (length-map (map written_page pages) unplaced ∙ length-map pages written_page))
+-- 32 bytes for each page that is a run of its own
+pub lone_size : (f : Frame) (pages : List (ℕ × ℕ)) → length (run_record 2 f (map (λ page. lone_run (unplaced page)) pages)) ≡ length (record_bytes 2 f []) + 32 * length pages
+unfolding runs_of
+lone_size f pages = record_size f (map (λ page. lone_run (unplaced page)) pages) ∙ ap (λ n. length (run_record 2 f []) + 32 * n) (length-map pages (λ page. lone_run (unplaced page)))
+
+-- that a record takes no more meta blocks than one in which each page is a run of its own, as ckpt_records promises it
+abbrev pub MetasSuffice : Type 0
+MetasSuffice = (f : Frame) (pages : List PagePlace) → metas_for (length (record_bytes 2 f pages)) ≤ metas_of f (map listed_page pages)
+
+-- the meta blocks of pages in these blocks
+pub metas_within : MetasSuffice → (f : Frame) (pages : List Page) (places : List ℕ) → length places ≡ length pages → metas_for (length (record_bytes 2 f (placed pages places))) ≤ metas_of f (map written_page pages)
+metas_within suffice f pages places size = subst (λ (l : List (ℕ × ℕ)). metas_for (length (record_bytes 2 f (placed pages places))) ≤ metas_of f l) (which_placed pages places size) (suffice f (placed pages places))
 
 -- ---- blocks
 
@@ -115,10 +126,10 @@ pub of_some : {X : Type 0} (o : Option X) (x : X) (P : X → Type 0) → o ≡ S
 of_some {X = X} o x P is holds = subst (λ (k : Option X). IfSome k P) is holds
 
 abbrev pub body_of : ℕ → ℕ → ℕ → SlotBody
-body_of epoch first size = record { epoch = epoch; first = first; length = size }
+body_of epoch first size = record { format = 2; epoch = epoch; first = first; length = size }
 
 -- a plan of a layout in free blocks
-pub laid_out : (count : ℕ) (used : List ℕ) (old new : List Bool) (epoch : ℕ) (f : Frame) (pages : List Page) (layout : Layout) (blocks : List Block) (body : SlotBody) → ((b : ℕ) → IsTrue (is_free old b) ↔ MayBeFree count used b)
+abbrev pub laid_out : (count : ℕ) (used : List ℕ) (old new : List Bool) (epoch : ℕ) (f : Frame) (pages : List Page) (layout : Layout) (blocks : List Block) (body : SlotBody) → ((b : ℕ) → IsTrue (is_free old b) ↔ MayBeFree count used b)
     → IsLaidIn old f pages layout new → IsLaidAs layout epoch pages blocks body → IsLaidOut count used epoch f pages blocks body
 laid_out count used old new epoch f pages layout blocks body free lies are =
     let all = layout.places.items ++ layout.metas.items in

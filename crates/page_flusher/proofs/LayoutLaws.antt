@@ -16,7 +16,7 @@ use Rattle.ckpt_chain.specs.Slot.{newest}
 use Rattle.ckpt_chain.specs.declared.slot.Slot.{Slot}
 use Rattle.ckpt_chain.specs.declared.slot.SlotBody.{SlotBody}
 use Rattle.ckpt_records.specs.Holds.{block_numbers, block_count, listed_page, AreListed, IsCheckpointed, IsWritten, HoldsAt}
-use Rattle.ckpt_records.specs.Spelling.{record_bytes, first_fields, magic}
+use Rattle.ckpt_records.specs.Spelling.{record_bytes, run_record, first_fields, magic}
 use Rattle.ckpt_records.specs.Spells.{IsOrderly, IsPageOf, IsPagePlace as IsPagePlaced, Spells}
 use Rattle.ckpt_records.specs.declared.meta.PagePlace.{PagePlace}
 use Rattle.commit_gate.specs.Whole.{IsDataBlock, numbers, finished}
@@ -28,11 +28,12 @@ use Rattle.ckpt_records.specs.Pages.{written_page, ArePagesOf}
 use Rattle.page_flusher.specs.Plans.{placed, IsLaidOut}
 use Rattle.ckpt_records.specs.Cost.{blocks_for, cost_of}
 use Rattle.ckpt_records.specs.declared.meta.Page.{Page}
-use Rattle.page_flusher.proofs.RecordLaws.{few_between, record_fits, pages_rise, pages_are_of}
+use Rattle.page_flusher.specs.Taking.{IsSpelledBy}
+use Rattle.page_flusher.proofs.RecordLaws.{few_between, pages_rise, pages_are_of}
 use Rattle.page_flusher.proofs.CommitLaws.{IsRising, KeptIsHeld, committed, committed_newest, keeps_or_holds}
-use Rattle.ckpt_records.proofs.Members.{all_has, in_left, in_right}
-use Rattle.ckpt_records.proofs.Ordered.{IsOrdered, each_weaker, each_both, each_append, each_left, each_right, each_map, each_of_map, ordered_of_map, ordered_of_pairs}
-use Rattle.page_flusher.proofs.Laying.{blocks_placed, length_placed, size_anywhere, which_placed}
+use Rattle.ckpt_chain.specs.MemberLaws.{all_has, in_left, in_right}
+use Rattle.tables.proofs.Ordered.{IsOrdered, each_weaker, each_both, each_append, each_left, each_right, each_map, each_of_map, ordered_of_map, ordered_of_pairs}
+use Rattle.page_flusher.proofs.Laying.{MetasSuffice, blocks_placed, length_placed, metas_within, which_placed}
 
 abbrev IsWhole : List ℕ → Type 0
 IsWhole bytes = length bytes ≡ 4096
@@ -56,8 +57,8 @@ unfolding laid
 laid_whole bytes [] = tt
 laid_whole bytes (b ∷ blocks) = (block_whole (first_of blocks) (take 4088 bytes) (omega (arith, length-take 4088 bytes)), laid_whole (drop 4088 bytes) blocks)
 
-some_record : (f : Frame) (pages : List PagePlace) → 1 ≤ length (record_bytes f pages)
-unfolding record_bytes first_fields magic
+some_record : (f : Frame) (pages : List PagePlace) → 1 ≤ length (record_bytes 2 f pages)
+unfolding run_record first_fields magic
 some_record f pages = omega arith
 
 -- ---- blocks that an image has
@@ -102,7 +103,7 @@ module _ (count : ℕ) (used : List ℕ) (epoch : ℕ) (f : Frame) (pages : List
 
   all_whole : AllByRecursion IsWhole (map (λ b. b.bytes) blocks)
   all_whole = subst (AllByRecursion IsWhole) (sym l.bytes_are)
-      (each_append IsWhole (map (λ (p : Page). p.bytes) pages) (laid (record_bytes f (placed pages l.places)) l.metas) (each_map IsWhole (λ (p : Page). p.bytes) pages whole) (laid_whole (record_bytes f (placed pages l.places)) l.metas))
+      (each_append IsWhole (map (λ (p : Page). p.bytes) pages) (laid (record_bytes 2 f (placed pages l.places)) l.metas) (each_map IsWhole (λ (p : Page). p.bytes) pages whole) (laid_whole (record_bytes 2 f (placed pages l.places)) l.metas))
 
   all_placed : AllByRecursion (IsDataBlock count) blocks
   all_placed =
@@ -124,19 +125,19 @@ module _ (count : ℕ) (used : List ℕ) (epoch : ℕ) (f : Frame) (pages : List
   within : AllByRecursion (λ n. (2 ≤ n) × (n < count)) (l.places ++ l.metas)
   within = each_weaker (MayBeFree count used) (λ n. (2 ≤ n) × (n < count)) (l.places ++ l.metas) (λ n free. (free.least, free.most)) l.free
 
-  metas_within : AllByRecursion (λ n. (2 ≤ n) × (n < count)) l.metas
-  metas_within = each_right (λ n. (2 ≤ n) × (n < count)) l.places l.metas within
+  metas_on_disk : AllByRecursion (λ n. (2 ≤ n) × (n < count)) l.metas
+  metas_on_disk = each_right (λ n. (2 ≤ n) × (n < count)) l.places l.metas within
 
   few_blocks : length l.places + length l.metas ≤ count - 2
   few_blocks = omega (arith, few_between (λ (n : ℕ). n) 2 count (l.places ++ l.metas) all_rise within, length-append l.places l.metas)
 
-  few_bytes : length (record_bytes f (placed pages l.places)) ≤ 4088 * (count - 2)
+  few_bytes : length (record_bytes 2 f (placed pages l.places)) ≤ 4088 * (count - 2)
   few_bytes = omega (arith, few_blocks, l.metas_enough)
 
   -- the image has each page in its place, and the record in the meta blocks
-  parts_there : (image : List ℕ) → HasBlocks image (numbers blocks) (map (λ b. b.bytes) blocks) → HasBlocks image l.places (map (λ p. p.bytes) pages) × HasBlocks image l.metas (laid (record_bytes f (placed pages l.places)) l.metas)
+  parts_there : (image : List ℕ) → HasBlocks image (numbers blocks) (map (λ b. b.bytes) blocks) → HasBlocks image l.places (map (λ p. p.bytes) pages) × HasBlocks image l.metas (laid (record_bytes 2 f (placed pages l.places)) l.metas)
   parts_there image there =
-      has_parts image l.places l.metas (map (λ p. p.bytes) pages) (laid (record_bytes f (placed pages l.places)) l.metas) (l.enough ∙ sym (length-map pages (λ (p : Page). p.bytes)))
+      has_parts image l.places l.metas (map (λ p. p.bytes) pages) (laid (record_bytes 2 f (placed pages l.places)) l.metas) (l.enough ∙ sym (length-map pages (λ (p : Page). p.bytes)))
       (subst (HasBlocks image (l.places ++ l.metas)) l.bytes_are (subst (λ (ns : List ℕ). HasBlocks image ns (map (λ b. b.bytes) blocks)) l.numbers_are there))
 
   -- a group whose pages these are
@@ -164,7 +165,7 @@ module _ (count : ℕ) (used : List ℕ) (epoch : ℕ) (f : Frame) (pages : List
           let long : length (finished (target_after kept) blocks body r) ≡ length r = (finished_same (target_after kept) blocks count all_placed r body least size).size in
           omega (arith, long, size)
 
-      there : HasBlocks (finished (target_after kept) blocks body r) l.places (map (λ p. p.bytes) pages) × HasBlocks (finished (target_after kept) blocks body r) l.metas (laid (record_bytes f (placed pages l.places)) l.metas)
+      there : HasBlocks (finished (target_after kept) blocks body r) l.places (map (λ p. p.bytes) pages) × HasBlocks (finished (target_after kept) blocks body r) l.metas (laid (record_bytes 2 f (placed pages l.places)) l.metas)
       there = parts_there (finished (target_after kept) blocks body r) (committed (target_after kept) blocks count all_placed r body least size blocks_rise)
 
       listed : AreListed (finished (target_after kept) blocks body r) g (placed pages l.places)
@@ -176,29 +177,27 @@ module _ (count : ℕ) (used : List ℕ) (epoch : ℕ) (f : Frame) (pages : List
 
       newest_is : newest (finished (target_after kept) blocks body r) ≡ Some (target_after kept, body)
       newest_is =
-          committed_newest count kept blocks body r least size keeps (laid_avoids kept covers) (ap (λ (b : SlotBody). b.epoch) l.body_is ∙ epoch_is)
+          committed_newest count kept blocks body r least size keeps (laid_avoids kept covers) (inr (ap (λ (b : SlotBody). b.format) l.body_is)) (ap (λ (b : SlotBody). b.epoch) l.body_is ∙ epoch_is)
           (omega (arith, ap (λ (b : SlotBody). b.epoch) l.body_is, epoch64))
-          (omega (arith, ap (λ (b : SlotBody). b.first) l.body_is, first_below count l.metas (omega (arith, least)) metas_within, most))
+          (omega (arith, ap (λ (b : SlotBody). b.first) l.body_is, first_below count l.metas (omega (arith, least)) metas_on_disk, most))
           (omega (arith, ap (λ (b : SlotBody). b.length) l.body_is, few_bytes, most))
 
-      spells : Spells (record_bytes f (placed pages l.places)) count g.frame (placed pages l.places)
-      spells = record {
-        spelled = ap (λ (x : Frame). record_bytes x (placed pages l.places)) (sym same);
-        fits = record_fits g.frame checkpointed.valid.sound.frame checkpointed.built count (placed pages l.places) checkpointed.all_marked most (omega (arith, few_blocks, length_placed pages l.places l.enough)) orderly.placed;
-        orderly = orderly;
-      }
+      spells : IsSpelledBy (record_bytes 2 f (placed pages l.places)) f (placed pages l.places) → Spells 2 (record_bytes 2 f (placed pages l.places)) count g.frame (placed pages l.places)
+      spells spelled =
+          let own : IsOrderly count f (placed pages l.places) = subst (λ (x : Frame). IsOrderly count x (placed pages l.places)) same orderly in
+          subst (λ (x : Frame). Spells 2 (record_bytes 2 f (placed pages l.places)) count x (placed pages l.places)) (sym same) (spelled count own)
 
-      holds_after : WrittenIsHeld → HoldsAt (finished (target_after kept) blocks body r) epoch g (placed pages l.places) l.metas (target_after kept)
+      holds_after : IsSpelledBy (record_bytes 2 f (placed pages l.places)) f (placed pages l.places) → WrittenIsHeld → HoldsAt (finished (target_after kept) blocks body r) epoch g (placed pages l.places) l.metas (target_after kept)
       unfolding InDisk
-      holds_after written_held = written_held (finished (target_after kept) blocks body r) (record_bytes f (placed pages l.places)) epoch g (placed pages l.places) l.metas (target_after kept) (record {
+      holds_after spelled written_held = written_held (finished (target_after kept) blocks body r) (record_bytes 2 f (placed pages l.places)) epoch g (placed pages l.places) l.metas (target_after kept) (record {
         size = omega (arith, counted, most);
         newest_is = newest_is ∙ ap (λ (b : SlotBody). Some (target_after kept, b)) l.body_is;
         some_bytes = some_record f (placed pages l.places);
         few_bytes = omega (arith, counted, few_bytes);
         enough = l.metas_enough;
-        in_disk = subst (λ (n : ℕ). InDisk n l.metas) (sym counted) metas_within;
+        in_disk = subst (λ (n : ℕ). InDisk n l.metas) (sym counted) metas_on_disk;
         laid_there = there.1;
-        spelled = subst (λ (n : ℕ). Spells (record_bytes f (placed pages l.places)) n g.frame (placed pages l.places)) (sym counted) spells;
+        spelled = subst (λ (n : ℕ). Spells 2 (record_bytes 2 f (placed pages l.places)) n g.frame (placed pages l.places)) (sym counted) (spells spelled);
         listed = listed;
         group = checkpointed;
       })
@@ -209,29 +208,30 @@ module _ (count : ℕ) (used : List ℕ) (epoch : ℕ) (f : Frame) (pages : List
       let are : l.metas ++ l.places ≡ l.metas ++ block_numbers (placed pages l.places) = ap (λ (ns : List ℕ). l.metas ++ ns) (sym (blocks_placed pages l.places l.enough)) in
       (λ has. subst (Has b) are (has_swap l.places l.metas b (subst (Has b) l.numbers_are has)), λ has. subst (Has b) (sym l.numbers_are) (has_swap l.metas l.places b (subst (Has b) (sym are) has)))
 
-  -- as many as the group's pages and meta blocks
-  as_many : (g : Group) → g.frame ≡ f → ArePagesOf g pages → length blocks ≡ cost_of g
-  as_many g same are =
+  -- no more than the group's pages, and its meta blocks where each page is a run of its own
+  as_many : MetasSuffice → (g : Group) → g.frame ≡ f → ArePagesOf g pages → length blocks ≤ cost_of g
+  as_many suffice g same are =
       let all : length blocks ≡ length l.places + length l.metas = sym (length-map blocks (λ (b : Block). b.number)) ∙ ap length l.numbers_are ∙ length-append l.places l.metas in
       let own : blocks_for f (map written_page pages) ≡ cost_of g = ap (λ (x : Frame). blocks_for x (map written_page pages)) (sym same) ∙ ap (blocks_for g.frame) are.which in
-      omega (arith, all, own, l.enough, l.metas_enough, size_anywhere f pages l.places l.enough, length-map pages written_page)
+      omega (arith, all, own, l.enough, l.metas_enough, metas_within suffice f pages l.places l.enough, length-map pages written_page)
 
-  replaced : WrittenIsHeld → KeptIsHeld → (g : Group) → g.frame ≡ f → IsCheckpointed g → ArePagesOf g pages → 16 ≤ count → count ≤ 2 ^ 20 → epoch < 2 ^ 64 → (kept : NewestCheckpoint) (target : Slot) (r : List ℕ)
+  replaced : IsSpelledBy (record_bytes 2 f (placed pages l.places)) f (placed pages l.places) → WrittenIsHeld → KeptIsHeld → (g : Group) → g.frame ≡ f → IsCheckpointed g → ArePagesOf g pages → 16 ≤ count → count ≤ 2 ^ 20 → epoch < 2 ^ 64 → (kept : NewestCheckpoint) (target : Slot) (r : List ℕ)
       → IsBeforeCommit count used epoch target kept r → Replaces kept epoch g (placed pages l.places) l.metas target blocks body r
-  replaced written_held held_kept g same checkpointed are least most epoch64 kept target r before =
-      let held = holds_after g same checkpointed are least most kept before.covers (sym before.next) epoch64 r before.size before.keeps written_held in
+  replaced spelled written_held held_kept g same checkpointed are least most epoch64 kept target r before =
+      let held = holds_after g same checkpointed are least most kept before.covers (sym before.next) epoch64 r before.size before.keeps spelled written_held in
       subst (λ (t : Slot). Replaces kept epoch g (placed pages l.places) l.metas t blocks body r) before.into (record {
         during = λ image either. keeps_or_holds held_kept count kept g (placed pages l.places) l.metas blocks body r image before.size before.keeps (laid_avoids kept before.covers)
             (subst (λ (e : ℕ). HoldsAt (finished (target_after kept) blocks body r) e g (placed pages l.places) l.metas (target_after kept)) (sym before.next) held) either;
         after = held;
       })
 
-  pub laid_plan : WrittenIsHeld → KeptIsHeld → 16 ≤ count → count ≤ 2 ^ 20 → (g : Group) → g.frame ≡ f → IsCheckpointed g → ArePagesOf g pages → epoch < 2 ^ 64 → IsPlan count used epoch g blocks body
-  laid_plan written_held held_kept least most g same checkpointed are epoch64 = record {
+  pub laid_plan : IsSpelledBy (record_bytes 2 f (placed pages l.places)) f (placed pages l.places) → WrittenIsHeld → KeptIsHeld → MetasSuffice → 16 ≤ count → count ≤ 2 ^ 20 → (g : Group) → g.frame ≡ f → IsCheckpointed g → ArePagesOf g pages → epoch < 2 ^ 64 → IsPlan count used epoch g blocks body
+  laid_plan spelled written_held held_kept suffice least most g same checkpointed are epoch64 = record {
     pages = placed pages l.places;
     metas = l.metas;
     uses = uses;
-    size = as_many g same are;
+    size = as_many suffice g same are;
     placed = all_placed;
-    replaces = λ kept target r before. replaced written_held held_kept g same checkpointed are least most epoch64 kept target r before;
+    format = ap (λ (b : SlotBody). b.format) l.body_is;
+    replaces = λ kept target r before. replaced spelled written_held held_kept g same checkpointed are least most epoch64 kept target r before;
   }

@@ -1,5 +1,5 @@
 -- What a disk keeps while a commit goes on, and what the commit puts in its place.
-use Rattle.std.specs.Prelude.{◌≡◌, ◌⊎◌, ◌↔◌, ◌*◌, ℕ, List, ◌++◌, length}
+use Rattle.std.specs.Prelude.{◌≡◌, ◌⊎◌, ◌↔◌, ◌*◌, ◌≤◌, ℕ, List, ◌++◌, length}
 use Rattle.std.specs.List.{AllByRecursion}
 use Rattle.group_defs.specs.Group.{Group}
 use Rattle.ckpt_chain.specs.Chain.{Has}
@@ -40,12 +40,13 @@ pub record Replaces (kept : NewestCheckpoint) (epoch : ℕ) (g : Group) (pages :
   pub during : (image : List ℕ) → IsUnfinished target blocks r image ⊎ (image ≡ finished target blocks body r) → HasNewestOrNext kept g image
   pub after : HoldsAt (finished target blocks body r) epoch g pages metas target
 
--- The plan of a group's commit as this epoch: its pages and its meta blocks lie in the blocks written, which are as many as these
--- take; on every disk of so many blocks whose kept checkpoint uses only blocks in use, the commit replaces it by the group's.
+-- The plan of a group's commit as this epoch: its pages and its meta blocks lie in the blocks written, which are no more than the
+-- group's checkpoint takes, and its body is of format 2; on every disk of so many blocks whose kept checkpoint uses only blocks in use, the commit replaces it by the group's.
 pub record IsPlan (count : ℕ) (used : List ℕ) (epoch : ℕ) (g : Group) (blocks : List Block) (body : SlotBody) : Type 0 where
   pub pages : List PagePlace
   pub metas : List ℕ
   pub uses : (b : ℕ) → Has b (numbers blocks) ↔ Has b (metas ++ block_numbers pages)
-  pub size : length blocks ≡ cost_of g
+  pub size : length blocks ≤ cost_of g
   pub placed : AllByRecursion (IsDataBlock count) blocks
+  pub format : body.format ≡ 2
   pub replaces : (kept : NewestCheckpoint) (target : Slot) (r : List ℕ) → IsBeforeCommit count used epoch target kept r → Replaces kept epoch g pages metas target blocks body r

@@ -22,7 +22,7 @@ gate_in k B = k.gate_b
 -- It knows the epoch that comes next, the blocks in use, and the slot of the next commit.
 pub record Describes (k : KeptBlocks) (kept : NewestCheckpoint) : Type 0 where
   pub epoch : epoch_after kept ≡ k.epoch + 1
-  pub used : (b : ℕ) → Has b k.used.items ↔ Has b (used_by kept)
+  pub used : (b : ℕ) → Has b k.used ↔ Has b (used_by kept)
   pub target : target_after kept ≡ k.target
 
 -- ... and the gates
@@ -33,7 +33,7 @@ DescribesGates k image = (slot : Slot) → slice_index image (gate_place slot) �
 -- before. Where the gates of a disk were known before the commit, those that it leaves are known.
 pub record IsKeptAfter (k : KeptBlocks) (blocks : List Block) (k' : KeptBlocks) : Type 0 where
   pub epoch : k'.epoch ≡ k.epoch + 1
-  pub used : k'.used.items ≡ numbers blocks
+  pub used : k'.used ≡ numbers blocks
   pub target : k'.target ≡ other k.target
   pub opened : gate_in k' k.target ≡ 1
   pub stays : gate_in k' (other k.target) ≡ gate_in k (other k.target)
@@ -42,6 +42,6 @@ pub record IsKeptAfter (k : KeptBlocks) (blocks : List Block) (k' : KeptBlocks) 
 -- at a run's start: the epoch, the blocks and the gates of its origin, and the slot that its placement doesn't have
 pub record DescribesOrigin (o : Origin) (k : KeptBlocks) : Type 0 where
   pub epoch : k.epoch ≡ o.epoch
-  pub used : k.used.items ≡ o.placement.metas ++ block_numbers o.placement.pages
+  pub used : k.used ≡ o.placement.metas ++ block_numbers o.placement.pages
   pub target : k.target ≡ other o.placement.slot
   pub gates : o.gates ≡ k.gate_a ∷ k.gate_b ∷ []

@@ -22,19 +22,19 @@ in_block x = record { object = x.0.object; page = x.0.page; block = x.1 }
 unfoldable pub placed : List Page → List ℕ → List PagePlace
 placed pages blocks = map in_block (zip pages blocks)
 
--- The pages lie in the least free blocks, and behind them the meta blocks of the record that says so; the body names them.
+-- The pages lie in the least free blocks, and behind them the meta blocks of the record that says so, in format 2; the body names them.
 pub record IsLaidOut (count : ℕ) (used : List ℕ) (epoch : ℕ) (f : Frame) (pages : List Page) (blocks : List Block) (body : SlotBody) : Type 0 where
   pub places : List ℕ
   pub metas : List ℕ
   pub enough : length places ≡ length pages
-  pub metas_enough : length metas ≡ metas_for (length (record_bytes f (placed pages places)))
+  pub metas_enough : length metas ≡ metas_for (length (record_bytes 2 f (placed pages places)))
   pub numbers_are : numbers blocks ≡ places ++ metas
   pub rising : AllPairs (λ m n. m < n) (places ++ metas)
   pub free : AllByRecursion (MayBeFree count used) (places ++ metas)
   -- a free block that isn't taken is behind all that are
   pub least : (b : ℕ) → MayBeFree count used b → Has b (places ++ metas) ⊎ AllByRecursion (λ t. t < b) (places ++ metas)
-  pub bytes_are : map (λ b. b.bytes) blocks ≡ map (λ p. p.bytes) pages ++ laid (record_bytes f (placed pages places)) metas
-  pub body_is : body ≡ record { epoch = epoch; first = first_of metas; length = length (record_bytes f (placed pages places)) }
+  pub bytes_are : map (λ b. b.bytes) blocks ≡ map (λ p. p.bytes) pages ++ laid (record_bytes 2 f (placed pages places)) metas
+  pub body_is : body ≡ record { format = 2; epoch = epoch; first = first_of metas; length = length (record_bytes 2 f (placed pages places)) }
 
 -- so many blocks are free, by whichever list of the blocks in use
 abbrev pub IsFreeCount : ℕ → List ℕ → ℕ → Type 0

@@ -6,6 +6,8 @@ use Rattle.block_alloc.specs.Free.{free_count, is_free}
 use Rattle.ckpt_chain.specs.Chain.{Has, first_of, laid, metas_for}
 use Rattle.ckpt_chain.specs.declared.slot.SlotBody.{SlotBody}
 use Rattle.ckpt_records.specs.Spelling.{record_bytes}
+use Rattle.ckpt_records.specs.Spells.{IsOrderly, Spells}
+use Rattle.ckpt_records.specs.declared.meta.PagePlace.{PagePlace}
 use Rattle.commit_gate.specs.Whole.{numbers}
 use Rattle.commit_gate.specs.declared.whole.Block.{Block}
 use Rattle.page_flusher.specs.Plans.{placed}
@@ -27,14 +29,18 @@ pub record Carry (ns : List ℕ) (contents : List (List ℕ)) (blocks : List Blo
   pub numbers_are : numbers blocks ≡ ns
   pub bytes_are : map (λ b. b.bytes) blocks ≡ contents
 
+-- The bytes spell a frame and a list of pages on each disk on which these are in order.
+abbrev pub IsSpelledBy : List ℕ → Frame → List PagePlace → Type 0
+IsSpelledBy bytes f pages = (blocks : ℕ) → IsOrderly blocks f pages → Spells 2 bytes blocks f pages
+
 -- The pages and the meta blocks lie in the least of the blocks that were free, and the record says where its pages do.
 pub record IsLaidIn (old : List Bool) (f : Frame) (pages : List Page) (layout : Layout) (new : List Bool) : Type 0 where
   pub enough : length layout.places.items ≡ length pages
-  pub record_is : layout.bytes.items ≡ record_bytes f (placed pages layout.places.items)
+  pub record_is : layout.bytes.items ≡ record_bytes 2 f (placed pages layout.places.items)
   pub metas_enough : length layout.metas.items ≡ metas_for (length layout.bytes.items)
   pub taken : AreTaken old (length pages + metas_for (length layout.bytes.items)) (layout.places.items ++ layout.metas.items) new
 
 -- The blocks are those of a layout, with the pages' bytes and the record's; the body names the record's.
 pub record IsLaidAs (layout : Layout) (epoch : ℕ) (pages : List Page) (blocks : List Block) (body : SlotBody) : Type 0 where
   pub carry : Carry (layout.places.items ++ layout.metas.items) (map (λ p. p.bytes) pages ++ laid layout.bytes.items layout.metas.items) blocks
-  pub body_is : body ≡ record { epoch = epoch; first = first_of layout.metas.items; length = length layout.bytes.items }
+  pub body_is : body ≡ record { format = 2; epoch = epoch; first = first_of layout.metas.items; length = length layout.bytes.items }

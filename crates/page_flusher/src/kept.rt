@@ -8,7 +8,7 @@ ghost use Rattle.page_flusher.specs.KeptBlocks.{IsKeptAfter, gate_in};
 use ckpt_chain::Slot;
 use ckpt_records::Placement;
 use commit_gate::Block;
-use lists::NoMemory;
+use lists::{NoMemory, Seq};
 use std::alloc::Global;
 
 /// Of the newest checkpoint, or of a disk that has none.
@@ -17,7 +17,7 @@ pub struct KeptBlocks {
     /// Its epoch; 0 where there is none.
     pub epoch: u64,
     /// The blocks that it uses.
-    pub used: Vec<u64>,
+    pub used: Seq<u64>,
     /// The slot of the next commit.
     pub target: Slot,
     /// The gate bytes of slots A and B.
@@ -43,7 +43,7 @@ impl KeptBlocks {
         gates: [u8; 2],
     ) -> Result<KeptBlocks, NoMemory>
         ensures epoch { IfOk result (λ k. k.epoch ≡ epoch) }
-        ensures used { IfOk result (λ k. k.used.items
+        ensures used { IfOk result (λ k. k.used
             ≡ placement.now.metas ++ block_numbers placement.now.pages) }
         ensures target { IfOk result (λ k. k.target ≡ other placement.now.slot) }
         ensures gates { IfOk result (λ k. gates ≡ k.gate_a ∷ k.gate_b ∷ []) }
@@ -55,7 +55,7 @@ impl KeptBlocks {
         let [gate_a, gate_b] = gates;
         Ok(KeptBlocks {
             epoch,
-            used,
+            used: Seq::of(used),
             target: other_slot(placement.slot),
             gate_a,
             gate_b,
@@ -87,7 +87,7 @@ impl KeptBlocks {
         };
         Ok(KeptBlocks {
             epoch: self.epoch + 1,
-            used,
+            used: Seq::of(used),
             target: other_slot(self.target),
             gate_a,
             gate_b,

@@ -1,7 +1,7 @@
 //! What commits leave, whatever is kept.
 ghost use Rattle.std.specs.Prelude.{◌≡◌, ◌⊎◌, ◌<◌, ◌≤◌, ◌*◌, ◌^◌, ℕ, List, length, Some};
 ghost use Rattle.group_defs.specs.Group.{Group};
-ghost use Rattle.ckpt_chain.specs.Slot.{newest};
+ghost use Rattle.ckpt_chain.specs.Slot.{IsFormat, newest};
 ghost use Rattle.ckpt_chain.specs.declared.slot.SlotBody.{SlotBody};
 ghost use Rattle.ckpt_records.specs.Holds.{HoldsAt};
 ghost use Rattle.ckpt_records.specs.declared.meta.PagePlace.{PagePlace};
@@ -28,11 +28,11 @@ pub fn commits_keep_or_replace()
     kept_is_held()
 }
 
-/// After a commit its slot is the newest open one, with its body.
+/// After a commit of a body of format 1 or 2 its slot is the newest open one, with its body.
 pub fn committed_slot_is_newest()
     ensures { (count : ℕ) (kept : NewestCheckpoint) (blocks : List Block) (body : SlotBody)
         (r : List ℕ) → 16 ≤ count → length r ≡ 4096 * count → HasNewest r kept
-        → Avoids count kept blocks → body.epoch ≡ epoch_after kept → body.epoch < 2 ^ 64
-        → body.first < 2 ^ 64 → body.length < 2 ^ 64
+        → Avoids count kept blocks → IsFormat body.format → body.epoch ≡ epoch_after kept
+        → body.epoch < 2 ^ 64 → body.first < 2 ^ 64 → body.length < 2 ^ 64
         → newest (finished (target_after kept) blocks body r) ≡ Some (target_after kept, body) }
 {}

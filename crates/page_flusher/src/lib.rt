@@ -9,8 +9,6 @@
 mod kept;
 mod laws;
 mod plan;
-#[cfg(test)]
-mod tests;
 
 pub use kept::KeptBlocks;
 pub use laws::{commits_keep_or_replace, committed_slot_is_newest};

@@ -1,5 +1,5 @@
 //! What a commit writes, and where.
-ghost use Rattle.std.specs.Prelude.{◌+◌, ℕ, IfErr, IfNone, List, ◌≡◌, ◌≤◌, ◌<◌, ◌^◌, ◌++◌, IfOk, IfSome, length, map};
+ghost use Rattle.std.specs.Prelude.{ℕ, IfErr, ◌≡◌, ◌≤◌, ◌^◌, ◌++◌, IfOk, length, map};
 ghost use Rattle.block_alloc.specs.Free.{free_count};
 ghost use Rattle.ckpt_records.specs.Fits.{IsInForm};
 ghost use Rattle.ckpt_chain.specs.Chain.{first_of as first_number, laid};
@@ -11,12 +11,12 @@ ghost use Rattle.ckpt_records.specs.Newest.{NewestCheckpoint};
 ghost use Rattle.ckpt_records.specs.Pages.{ArePagesOf, written_page};
 ghost use Rattle.page_flusher.specs.Plans.{IsFreeCount, IsLaidOut, IsPlanRefused, placed};
 ghost use Rattle.ckpt_records.specs.Cost.{blocks_for};
-ghost use Rattle.page_flusher.specs.Taking.{AreTaken, Carry, IsLaidAs, IsLaidIn};
+ghost use Rattle.page_flusher.specs.Taking.{AreTaken, Carry, IsLaidAs, IsLaidIn, IsSpelledBy};
 ghost use Rattle.std.specs.List.{AllByRecursion};
 
 use block_alloc::{Blocks, rebuild};
 use ckpt_chain::{PageBytes, SlotBody, lay_stream};
-use ckpt_records::{Page, PagePlace, kept_is_held, write_meta, written_is_held};
+use ckpt_records::{Page, PagePlace, kept_is_held, metas_suffice, write_meta, written_is_held};
 use commit_gate::Block;
 use group_defs::Frame;
 use lists::{NoMemory, Seq};
@@ -24,6 +24,12 @@ use std::alloc::Global;
 
 /// The bytes of a record in one meta block; before them stands the number of the next one.
 const PAYLOAD: usize = 4_088;
+
+/// The bytes of a run in a record.
+const RUN: usize = 32;
+
+/// The format in which checkpoints are written.
+const FORMAT: u8 = 2;
 
 /// What a commit writes, and the body of its slot.
 #[derive(Debug, Drop)]
@@ -40,25 +46,20 @@ pub enum PlanRefused {
     NoMemory,
 }
 
-// So many of the least free blocks, by rising number; none where fewer are free.
-fn take_blocks(
-    alloc: Global,
-    blocks: &mut Blocks,
-    count: usize,
-) -> Result<Option<Vec<u64>>, NoMemory>
-    ensures taken { IfOk result (λ taken. IfSome taken
-        (λ list. AreTaken blocks.old count list.items blocks.new)) }
-    ensures none { IfOk result (λ taken. IfNone taken (free_count blocks.old < count)) }
+// So many of the least free blocks, by rising number.
+fn take_blocks(alloc: Global, blocks: &mut Blocks, count: usize) -> Result<Vec<u64>, NoMemory>
+    requires { count ≤ free_count blocks.now }
+    ensures { IfOk result (λ taken. AreTaken blocks.old count taken.items blocks.new) }
 {
     let mut taken = Vec::new(alloc);
     for _ in 0..count {
         let block = match blocks.take() {
             Some(block) => block,
-            None => return Ok(None),
+            None => unreachable!(),
         };
         taken.push(block)?;
     }
-    Ok(Some(taken))
+    Ok(taken)
 }
 
 fn places_of(alloc: Global, pages: &[Page], blocks: &[u64]) -> Result<Vec<PagePlace>, NoMemory>
@@ -85,8 +86,10 @@ fn record_of(
 ) -> Result<Vec<u8>, NoMemory>
     requires form { IsInForm frame.now }
     requires enough { length blocks.now ≡ length pages.now }
-    ensures { IfOk result (λ bytes. bytes.items
-        ≡ record_bytes frame.now (placed pages.now blocks.now)) }
+    ensures bytes { IfOk result (λ bytes. bytes.items
+        ≡ record_bytes 2 frame.now (placed pages.now blocks.now)) }
+    ensures spelled { IfOk result (λ bytes. IsSpelledBy bytes.items frame.now
+        (placed pages.now blocks.now)) }
 {
     let places = places_of(alloc, pages, blocks)?;
     write_meta(alloc, frame, &places)
@@ -140,33 +143,28 @@ pub struct Layout {
     pub bytes: Vec<u8>,
 }
 
-// The least of the free blocks for pages and for the record of them and of a frame; none where too few are free.
+// The least of the free blocks for pages and for the record of them and of a frame.
 fn lay_out(
     alloc: Global,
     free: &mut Blocks,
     frame: &Frame,
     pages: &[Page],
-) -> Result<Option<Layout>, NoMemory>
-    requires { IsInForm frame.now }
-    ensures laid { IfOk result (λ layout. IfSome layout
-        (λ layout. IsLaidIn free.old frame.now pages.now layout free.new)) }
-    ensures none { IfOk result (λ layout. IfNone layout
-        (free_count free.old < blocks_for frame.now (map written_page pages.now))) }
+) -> Result<Layout, NoMemory>
+    requires form { IsInForm frame.now }
+    requires fits { blocks_for frame.now (map written_page pages.now) ≤ free_count free.now }
+    ensures laid { IfOk result (λ layout. IsLaidIn free.old frame.now pages.now layout free.new) }
+    ensures spelled { IfOk result (λ layout. IsSpelledBy layout.bytes.items frame.now
+        (placed pages.now layout.places.items)) }
 {
-    let places = match take_blocks(alloc, free, pages.len())? {
-        Some(places) => places,
-        None => return Ok(None),
-    };
+    metas_suffice();
+    let places = take_blocks(alloc, free, pages.len())?;
     let bytes = record_of(alloc, frame, pages, &places)?;
-    let metas = match take_blocks(alloc, free, bytes.len().div_ceil(PAYLOAD))? {
-        Some(metas) => metas,
-        None => return Ok(None),
-    };
-    Ok(Some(Layout {
+    let metas = take_blocks(alloc, free, bytes.len().div_ceil(PAYLOAD))?;
+    Ok(Layout {
         places,
         metas,
         bytes,
-    }))
+    })
 }
 
 // The pages in their blocks, and behind them the record's bytes in its meta blocks.
@@ -190,6 +188,7 @@ fn plan_in(alloc: Global, layout: &Layout, epoch: u64, pages: Vec<Page>) -> Resu
 {
     let blocks = all_blocks(alloc, layout, pages)?;
     let body = SlotBody {
+        format: FORMAT,
         epoch,
         first: first_block(&layout.metas),
         length: layout.bytes.len() as u64,
@@ -200,28 +199,20 @@ fn plan_in(alloc: Global, layout: &Layout, epoch: u64, pages: Vec<Page>) -> Resu
     })
 }
 
-// How many blocks a checkpoint needs: a record's length is the same wherever its pages lie.
+// How many blocks a checkpoint of these pages needs at most: one for each, and those of a record in which each is a run of its own.
+// A size that no memory has is want of memory.
 fn blocks_needed(alloc: Global, frame: &Frame, pages: &[Page]) -> Result<u64, NoMemory>
     requires { IsInForm frame.now }
     ensures { IfOk result (λ need. need ≡ blocks_for frame.now (map written_page pages.now)) }
 {
-    let mut anywhere = Vec::new(alloc);
-    anywhere.resize(pages.len(), 0)?;
-    let record = record_of(alloc, frame, pages, &anywhere)?;
-    Ok(pages.len() as u64 + record.len().div_ceil(PAYLOAD) as u64)
-}
-
-// Why there is no plan where so many blocks are free.
-fn full(alloc: Global, frame: &Frame, pages: &[Page], free: u64) -> PlanRefused
-    requires { IsInForm frame.now }
-    ensures { (count : ℕ) (used : List ℕ) → IsFreeCount count used free
-        → free < blocks_for frame.now (map written_page pages.now)
-        → IsPlanRefused count used frame.now pages.now result }
-{
-    match blocks_needed(alloc, frame, pages) {
-        Ok(need) => PlanRefused::Full { need, free },
-        Err(NoMemory) => PlanRefused::NoMemory,
-    }
+    let record = write_meta(alloc, frame, &[])?;
+    let Some(runs) = pages.len().checked_mul(RUN) else {
+        return Err(NoMemory);
+    };
+    let Some(size) = record.len().checked_add(runs) else {
+        return Err(NoMemory);
+    };
+    Ok(pages.len() as u64 + size.div_ceil(PAYLOAD) as u64)
 }
 
 /// The plan of a group's commit to a disk of so many blocks of which some are in use: its pages and then its meta blocks, in
@@ -240,6 +231,8 @@ pub fn plan_commit(
     requires whole { AllByRecursion (λ p. length p.bytes ≡ 4096) pages.items }
     ensures laid { IfOk result (λ plan. IsLaidOut count used.now epoch frame.now pages.items
         plan.blocks plan.body) }
+    ensures fits { IfOk result (λ plan. (free : ℕ) → IsFreeCount count used.now free
+        → blocks_for frame.now (map written_page pages.items) ≤ free) }
     ensures refused { IfErr result (λ refused. IsPlanRefused count used.now frame.now pages.items
         refused) }
     ensures avoids { IfOk result (λ plan. (kept : NewestCheckpoint) → Covers used.now kept
@@ -249,14 +242,21 @@ pub fn plan_commit(
 {
     written_is_held();
     kept_is_held();
+    metas_suffice();
     let mut unused = match rebuild(alloc, count, used) {
         Ok(unused) => unused,
         Err(NoMemory) => return Err(PlanRefused::NoMemory),
     };
     let free = unused.free_count();
+    let need = match blocks_needed(alloc, frame, &pages) {
+        Ok(need) => need,
+        Err(NoMemory) => return Err(PlanRefused::NoMemory),
+    };
+    if need > free {
+        return Err(PlanRefused::Full { need, free });
+    }
     let layout = match lay_out(alloc, &mut unused, frame, &pages) {
-        Ok(Some(layout)) => layout,
-        Ok(None) => return Err(full(alloc, frame, &pages, free)),
+        Ok(layout) => layout,
         Err(NoMemory) => return Err(PlanRefused::NoMemory),
     };
     match plan_in(alloc, &layout, epoch, pages) {

@@ -1,7 +1,7 @@
-//! Tests of a checkpoint's record, both ways, and of the group that a disk holds.
+//! Tests of a checkpoint's record, both ways and in both formats.
 //!
 //! A crate is proved again together with its tests. These need public calls alone, so they stand in a crate of their
-//! own, and `ckpt_records` and `restore_group` are proved once.
+//! own, and `ckpt_records` is proved once.
 #![tactic(auto)]
 
 #[cfg(test)]

@@ -1,4 +1,6 @@
 mod bounds;
+mod first_format;
 mod random;
 mod records;
-mod restoring;
+mod runs;
+mod samples;

@@ -16,7 +16,7 @@ use Rattle.ckpt_chain.specs.declared.stream.StreamRefused.{StreamRefused}
 use Rattle.ckpt_chain.specs.declared.stream.StreamRefused.TheVariants.{Broken}
 use Rattle.ckpt_chain.specs.declared.stream.StreamRefused.TheVariants as reasons
 use Rattle.ckpt_chain.specs.Refusals.{FaultRose}
-use Rattle.ckpt_records.proofs.Members.{in_map, from_filter, has_at}
+use Rattle.ckpt_chain.specs.MemberLaws.{in_map, from_filter, has_at}
 use Rattle.ckpt_records.specs.declared.meta.PagePlace.{PagePlace}
 use Rattle.ckpt_records.specs.declared.origin.Origin.{Origin}
 use Rattle.ckpt_records.specs.Holds.{block_count, listed_page, AreListed, HoldsAt, Holds, IsCheckpoint}
@@ -74,9 +74,9 @@ refused_cause Broken epoch before mid after le rose = tt
 refused_cause reasons.DiskFault epoch before mid after le rose = omega (arith, le, rose)
 refused_cause reasons.NoMemory epoch before mid after le rose = tt
 
--- that bytes spell one frame at most, as ckpt_records promises it
+-- that bytes spell one frame at most in a format, as ckpt_records promises it
 abbrev pub OneSpelled : Type 0
-OneSpelled = (bytes : List ℕ) (blocks : ℕ) (f g : Frame) (pages others : List PagePlace) → Spells bytes blocks f pages → Spells bytes blocks g others → (f ≡ g) × (pages ≡ others)
+OneSpelled = (format : ℕ) (bytes : List ℕ) (blocks : ℕ) (f g : Frame) (pages others : List PagePlace) → Spells format bytes blocks f pages → Spells format bytes blocks g others → (f ≡ g) × (pages ≡ others)
 
 -- ---- what an image whose newest slot has a body holds
 
@@ -88,7 +88,7 @@ module _ (image : List ℕ) (count : ℕ) (size : block_count image ≡ count) (
       record {
         bytes = c.bytes;
         stream = subst (λ (n : ℕ). stream_at image n body ≡ Some (c.bytes, h.metas)) size c.stream;
-        spelled = subst (λ (n : ℕ). Spells c.bytes n g.frame h.pages) size c.spelled;
+        spelled = subst (λ (n : ℕ). Spells body.format c.bytes n g.frame h.pages) size c.spelled;
         whole = record { valid = valid_frame g c.group.valid; built = c.group.built; all_marked = c.group.all_marked };
       }
 
@@ -99,7 +99,7 @@ module _ (image : List ℕ) (count : ℕ) (size : block_count image ≡ count) (
   same_pages : OneSpelled → (f g : Frame) (pages others : List PagePlace) (metas ends : List ℕ) → IsMeta image count body f pages metas → IsMeta image count body g others ends → others ≡ pages
   same_pages spells_once f g pages others metas ends a b =
       let e : b.bytes ≡ a.bytes = ap (λ (x : List ℕ × List ℕ). x.0) (some_is (b.bytes, ends) (a.bytes, metas) (sym b.stream ∙ a.stream)) in
-      (spells_once a.bytes count g f others pages (subst (λ (s : List ℕ). Spells s count g others) e b.spelled) a.spelled).1
+      (spells_once body.format a.bytes count g f others pages (subst (λ (s : List ℕ). Spells body.format s count g others) e b.spelled) a.spelled).1
 
   -- a page of those that the record lists is all zero
   some_zero : OneSpelled → (f : Frame) (pages : List PagePlace) (metas : List ℕ) → IsMeta image count body f pages metas → (NoneZero image pages → ⊥) → HoldsNothing image
@@ -123,7 +123,7 @@ module _ (image : List ℕ) (count : ℕ) (size : block_count image ≡ count) (
         checkpoint = record {
           bytes = meta.bytes;
           stream = subst (λ (n : ℕ). stream_at image n body ≡ Some (meta.bytes, metas)) (sym size) meta.stream;
-          spelled = subst (λ (n : ℕ). Spells meta.bytes n f pages) (sym size) meta.spelled;
+          spelled = subst (λ (n : ℕ). Spells body.format meta.bytes n f pages) (sym size) meta.spelled;
           listed = record { which = law.2; contents = contents_law image f pages layers count meta.whole meta.spelled.orderly are there };
           group = law.1;
         };

@@ -9,7 +9,7 @@ use Rattle.lists.specs.Bytes.{AreBytes}
 use Rattle.mem_objects.specs.Pages.{Pages, page_of, IsZero}
 use Rattle.restore_group.specs.Layers.{IsPage}
 use Rattle.ckpt_records.specs.Parts.{page_in, object_bytes}
-use Rattle.ckpt_records.proofs.Ordered.{IsOrdered, each_weaker, each_always, each_flat, each_in_range}
+use Rattle.tables.proofs.Ordered.{IsOrdered, each_weaker, each_always, each_flat, each_in_range}
 
 -- ---- one page
 

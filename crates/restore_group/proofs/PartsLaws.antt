@@ -18,7 +18,7 @@ use Rattle.ckpt_records.specs.Spells.{IsOrderly}
 use Rattle.restore_group.specs.Layers.{shared_out, layer_in, layers_in, IsLayerOf, AreLayersOf}
 use Rattle.restore_group.specs.Meta.{IsWholeFrame}
 use Rattle.ckpt_records.specs.Parts.{page_in, object_bytes, memory_of}
-use Rattle.ckpt_records.proofs.Ordered.{IsOrdered, each_weaker, each_both, each_append, each_of_map, each_map, ordered_map, ordered_of_map}
+use Rattle.tables.proofs.Ordered.{IsOrdered, each_weaker, each_both, each_append, each_of_map, each_map, ordered_map, ordered_of_map}
 use Rattle.restore_group.proofs.LayerLaws.{all_zero, ArePages, IsRising, object_len, object_range, object_page, shown_numbers}
 use Rattle.restore_group.proofs.SharedOut.{IsLower, AreOwn, objects_rise, shared_own, shared_all}
 

@@ -10,7 +10,7 @@ use Rattle.group_defs.specs.declared.frame.ObjectRec.{ObjectRec}
 use Rattle.ckpt_records.specs.declared.meta.PagePlace.{PagePlace}
 use Rattle.ckpt_records.specs.Spells.{IsPageBefore, IsOrderly, IsPagePlace, IsPageOf, PagesRise}
 use Rattle.restore_group.specs.Layers.{front, behind, shared_out}
-use Rattle.ckpt_records.proofs.Ordered.{IsOrdered, each_weaker, each_both, ordered_of_pairs}
+use Rattle.tables.proofs.Ordered.{IsOrdered, each_weaker, each_both, ordered_of_pairs}
 
 -- ---- the pages at the front, and those behind them
 

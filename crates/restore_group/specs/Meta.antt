@@ -15,9 +15,9 @@ pub record IsWholeFrame (f : Frame) : Type 0 where
   pub built : OnlyBuilt f
   pub all_marked : f.out.mark ≡ last_position f.out
 
--- the stream of a slot's body, in these meta blocks, spells this frame and this list of pages
+-- the stream of a slot's body, in these meta blocks, spells in the body's format this frame and this list of pages
 pub record IsMeta (image : List ℕ) (count : ℕ) (body : SlotBody) (f : Frame) (pages : List PagePlace) (metas : List ℕ) : Type 0 where
   pub bytes : List ℕ
   pub stream : stream_at image count body ≡ Some (bytes, metas)
-  pub spelled : Spells bytes count f pages
+  pub spelled : Spells body.format bytes count f pages
   pub whole : IsWholeFrame f

@@ -12,7 +12,8 @@ ghost use Rattle.restore_group.specs.Meta.{IsMeta, IsWholeFrame};
 use ckpt_chain::{SlotBody, StreamRefused, read_stream};
 use ckpt_records::{Meta, ReadError, read_meta};
 use dev_traits::Disk;
-use group_defs::{Frame, frame_valid};
+use group_defs::Frame;
+use group_valid::frame_valid;
 use lists::Seq;
 use std::alloc::Global;
 
@@ -45,7 +46,7 @@ pub fn meta_of<D: Disk>(
 {
     let blocks = disk.blocks();
     let stream = read_stream(alloc, disk, body)?;
-    match read_meta(alloc, stream.bytes.as_slice(), blocks) {
+    match read_meta(alloc, body.format, stream.bytes.as_slice(), blocks) {
         Err(_) => Err(StreamRefused::NoMemory),
         Ok(None) => Err(StreamRefused::Broken),
         Ok(Some(meta)) => {

@@ -37,6 +37,7 @@ fn read(
         return Err(Fail::new("the disk has not 16 blocks"));
     }
     let body = SlotBody {
+        format: 2,
         epoch: 1,
         first,
         length,

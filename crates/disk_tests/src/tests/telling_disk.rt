@@ -77,6 +77,7 @@ fn commit_told(
     requires gate { ForSome (telling_view disk.disk).reading
         (λ r. slice_index r (gate_place Slot.A) ≡ 1 → ⊥) }
     requires placed { AllByRecursion (IsDataBlock (telling_view disk.disk).blocks) blocks.now }
+    requires format { body.format ≡ 2 }
     ensures more { IfOk result
         (λ d. AddsCommit blocks.now body (telling_view disk.disk) (telling_view d.disk)) }
     ensures none { IfErr result
@@ -95,6 +96,7 @@ fn commit_one(disk: TellingDisk, blocks: &[Block]) -> TellingDisk {
         return disk;
     }
     let body = SlotBody {
+        format: 2,
         epoch: 1,
         first: 3,
         length: 8,

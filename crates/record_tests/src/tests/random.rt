@@ -1,19 +1,21 @@
-//! Frames from a fixed seed, with all of their parts, written and read again.
+//! Frames from a fixed seed, with all of their parts, written and read again in both formats.
+use crate::tests::first_format::in_first_format;
+use crate::tests::samples::BLOCKS;
 use ckpt_records::{PagePlace, is_in_form, read_meta, write_meta};
 use group_defs::{
-    FileRec, Frame, Mapping, Next, ObjectRec, Open, OpenKind, Out, Pair, Pipe, Proc, ProcState,
+    FileRec, Frame, Mapping, Message, Next, ObjectRec, Open, OpenKind, Out, Pair, Pipe, Proc,
+    ProcState,
 };
 use lists::Seq;
 use std::alloc::Global;
 use std::test::Fail;
 
-/// How many blocks the disk of these tests has.
-const BLOCKS: u64 = 16;
-
 /// Numbers by a linear congruential generator.
 #[derive(Drop)]
 struct Numbers {
     state: u64,
+    /// Whether messages carry descriptions.
+    carries: bool,
 }
 
 impl Numbers {
@@ -95,10 +97,22 @@ fn pipes(alloc: Global, numbers: &mut Numbers) -> Result<Seq<Pipe>, Fail> {
     Ok(Seq::of(list))
 }
 
-fn messages(alloc: Global, numbers: &mut Numbers) -> Result<Seq<Seq<u8>>, Fail> {
+fn carried(alloc: Global, numbers: &mut Numbers) -> Result<Seq<u64>, Fail> {
+    let mut list = Vec::new(alloc);
+    if numbers.carries {
+        for _ in 0..numbers.few() {
+            list.push(numbers.wide())?;
+        }
+    }
+    Ok(Seq::of(list))
+}
+
+fn messages(alloc: Global, numbers: &mut Numbers) -> Result<Seq<Message>, Fail> {
     let mut list = Vec::new(alloc);
     for _ in 0..numbers.few() {
-        list.push(text(alloc, numbers)?)?;
+        let bytes = text(alloc, numbers)?;
+        let opens = carried(alloc, numbers)?;
+        list.push(Message { bytes, opens })?;
     }
     Ok(Seq::of(list))
 }
@@ -243,15 +257,38 @@ fn frame(alloc: Global, numbers: &mut Numbers) -> Result<Frame, Fail> {
     })
 }
 
-fn place(numbers: &mut Numbers, object: u64, page: u64) -> PagePlace {
-    PagePlace {
-        object,
-        page,
-        block: 2 + u64::from(numbers.byte() % 14),
-    }
+fn some_block(numbers: &mut Numbers) -> u64 {
+    2 + u64::from(numbers.byte() % 14)
 }
 
-/// The first page of some of the objects, and the last one where there is another.
+/// Pages of an object, in runs and alone.
+fn put_pages(
+    list: &mut Vec<PagePlace>,
+    numbers: &mut Numbers,
+    object: &ObjectRec,
+) -> Result<(), Fail> {
+    let mut page = u64::from(numbers.few());
+    let mut block = some_block(numbers);
+    for _ in 0..numbers.byte() % 16 {
+        if page >= object.pages || page >= 256 || block >= BLOCKS {
+            return Ok(());
+        }
+        list.push(PagePlace {
+            object: object.number,
+            page,
+            block,
+        })?;
+        if numbers.coin() {
+            page += 1;
+            block += 1;
+        } else {
+            page += 1 + u64::from(numbers.few());
+            block = some_block(numbers);
+        }
+    }
+    Ok(())
+}
+
 fn pages(
     alloc: Global,
     numbers: &mut Numbers,
@@ -259,23 +296,27 @@ fn pages(
 ) -> Result<Vec<PagePlace>, Fail> {
     let mut list = Vec::new(alloc);
     for object in objects {
-        if numbers.coin() {
-            list.push(place(numbers, object.number, 0))?;
-        }
-        if object.pages > 1 && numbers.coin() {
-            list.push(place(numbers, object.number, object.pages - 1))?;
-        }
+        put_pages(&mut list, numbers, object)?;
     }
     Ok(list)
 }
 
-/// Whether a frame and its pages are read again as they were written.
-fn is_read_again(alloc: Global, frame: &Frame, pages: &[PagePlace]) -> Result<bool, Fail> {
+fn written(alloc: Global, frame: &Frame, pages: &[PagePlace]) -> Result<Vec<u8>, Fail> {
     if !is_in_form(frame) {
         return Err(Fail::new("a record can't say all of the frame"));
     }
-    let bytes = write_meta(alloc, frame, pages)?;
-    let Some(again) = read_meta(alloc, &bytes, BLOCKS)? else {
+    Ok(write_meta(alloc, frame, pages)?)
+}
+
+/// Whether bytes are read in a format as this frame and these pages.
+fn is_read(
+    alloc: Global,
+    format: u8,
+    bytes: &[u8],
+    frame: &Frame,
+    pages: &[PagePlace],
+) -> Result<bool, Fail> {
+    let Some(again) = read_meta(alloc, format, bytes, BLOCKS)? else {
         return Ok(false);
     };
     let before = format!(in alloc; "{frame:?} {pages:?}")?;
@@ -286,11 +327,89 @@ fn is_read_again(alloc: Global, frame: &Frame, pages: &[PagePlace]) -> Result<bo
 #[test]
 fn frames_from_a_seed_are_read_again(rt: HostRuntime) -> Result<(), Fail> {
     let alloc = rt.alloc();
-    let mut numbers = Numbers { state: 2026 };
+    let mut numbers = Numbers {
+        state: 2026,
+        carries: true,
+    };
     for round in 0..48 {
         let frame = frame(alloc, &mut numbers)?;
         let pages = pages(alloc, &mut numbers, frame.objects.as_slice())?;
-        assert!(rt; is_read_again(alloc, &frame, &pages)?, "in round {round}");
+        let bytes = written(alloc, &frame, &pages)?;
+        assert!(rt;
+            is_read(alloc, 2, &bytes, &frame, &pages)?,
+            "in round {round}"
+        );
+    }
+    Ok(())
+}
+
+/// Messages as format 1 has them: how many, and of each its length and its bytes.
+fn put_messages(record: &mut Vec<u8>, messages: &[Message]) -> Result<(), Fail> {
+    record.extend_from_slice(&(messages.len() as u64).to_le_bytes())?;
+    for message in messages {
+        let bytes = message.bytes.as_slice();
+        record.extend_from_slice(&(bytes.len() as u64).to_le_bytes())?;
+        record.extend_from_slice(bytes)?;
+    }
+    Ok(())
+}
+
+fn put_pairs(record: &mut Vec<u8>, pairs: &[Pair]) -> Result<(), Fail> {
+    record.extend_from_slice(&(pairs.len() as u64).to_le_bytes())?;
+    for pair in pairs {
+        record.extend_from_slice(&pair.number.to_le_bytes())?;
+        put_messages(record, pair.to0.as_slice())?;
+        put_messages(record, pair.to1.as_slice())?;
+    }
+    Ok(())
+}
+
+/// A record without pairs, with these in their place, which begins after so many bytes.
+fn with_pairs(alloc: Global, bare: &[u8], place: usize, pairs: &[Pair]) -> Result<Vec<u8>, Fail> {
+    if place > bare.len() || bare.len() - place < 8 {
+        return Err(Fail::new("the record is shorter"));
+    }
+    let mut record = bare[..place].to_vec(alloc)?;
+    put_pairs(&mut record, pairs)?;
+    record.extend_from_slice(&bare[place + 8..])?;
+    Ok(record)
+}
+
+/// The record of a frame without pages in format 2, as if it had no pairs; and where they would begin.
+fn bare_record(alloc: Global, state: u64) -> Result<(Vec<u8>, usize), Fail> {
+    let mut numbers = Numbers {
+        state,
+        carries: false,
+    };
+    let mut frame = frame(alloc, &mut numbers)?;
+    frame.pairs = Seq::new(alloc);
+    let bare = written(alloc, &frame, &[])?;
+    frame.opens = Seq::new(alloc);
+    frame.procs = Seq::new(alloc);
+    let front = written(alloc, &frame, &[])?;
+    if front.len() < 32 {
+        return Err(Fail::new("the record is shorter"));
+    }
+    Ok((bare, front.len() - 32))
+}
+
+#[test]
+fn frames_from_a_seed_are_read_in_the_first_format(rt: HostRuntime) -> Result<(), Fail> {
+    let alloc = rt.alloc();
+    for state in 1..33u64 {
+        let (bare, place) = bare_record(alloc, state)?;
+        let mut numbers = Numbers {
+            state,
+            carries: false,
+        };
+        let frame = frame(alloc, &mut numbers)?;
+        let pages = pages(alloc, &mut numbers, frame.objects.as_slice())?;
+        let bare = with_pairs(alloc, &bare, place, frame.pairs.as_slice())?;
+        let bytes = in_first_format(alloc, &bare, &pages)?;
+        assert!(rt;
+            is_read(alloc, 1, &bytes, &frame, &pages)?,
+            "from seed {state}"
+        );
     }
     Ok(())
 }

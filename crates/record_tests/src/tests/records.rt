@@ -1,109 +1,8 @@
+use crate::tests::samples::{BLOCKS, first_pages, frame_of, is_nothing, spelled, thirteen};
 use ckpt_chain::{SlotBody, read_slot};
-use ckpt_records::{PagePlace, is_in_form, num_at, read_meta, write_meta};
-use group_defs::{
-    Frame, Mapping, Next, ObjectRec, Open, OpenKind, Out, Proc, ProcState, frame_valid,
-};
-use lists::Seq;
+use ckpt_records::{num_at, read_meta};
 use std::alloc::Global;
 use std::test::Fail;
-
-/// How many blocks the disk of these tests has.
-const BLOCKS: u64 = 16;
-
-/// A private mapping of an object from its first page on.
-fn mapping(start: u64, pages: u64, prot: u8, object: u64) -> Mapping {
-    Mapping {
-        start,
-        pages,
-        prot,
-        shared: false,
-        object,
-        first: 0,
-    }
-}
-
-/// A description without offset and flags.
-fn open(number: u64, kind: OpenKind) -> Open {
-    Open {
-        number,
-        kind,
-        offset: 0,
-        flags: 0,
-    }
-}
-
-/// A process with `pages` pages of image, and its output.
-fn frame_of(alloc: Global, pages: u8, pc: u64, output: &[u8]) -> Result<Frame, Fail> {
-    let pages = u64::from(pages);
-    let brk = 0x10000 + 4096 * pages;
-    let maps = [
-        mapping(0x10000, pages, 7, 0),
-        mapping(0x3f_ffff_e000, 1, 3, 1),
-    ];
-    let opens = [open(0, OpenKind::Nothing), open(1, OpenKind::Outside)];
-    let objects = [
-        ObjectRec { number: 0, pages },
-        ObjectRec {
-            number: 1,
-            pages: 1,
-        },
-    ];
-    let mut regs = [0; 31];
-    regs[1] = 0x3f_ffff_f000;
-    let mut procs = Seq::new(alloc);
-    procs.push(Proc {
-        pid: 1,
-        parent: 0,
-        state: ProcState::Running,
-        pc,
-        regs,
-        brk_base: brk,
-        brk,
-        maps: Seq::of(Vec::from_slice(alloc, &maps)?),
-        fds: Seq::of(Vec::from_slice(alloc, &[(0, 0), (1, 1), (2, 1)])?),
-    })?;
-    Ok(Frame {
-        procs,
-        objects: Seq::of(Vec::from_slice(alloc, &objects)?),
-        opens: Seq::of(Vec::from_slice(alloc, &opens)?),
-        pipes: Seq::new(alloc),
-        pairs: Seq::new(alloc),
-        files: Seq::new(alloc),
-        next: Next {
-            pid: 2,
-            object: 2,
-            descr: 2,
-            pipe: 0,
-            pair: 0,
-        },
-        out: Out {
-            from: 0,
-            mark: output.len() as u64,
-            bytes: Seq::of(Vec::from_slice(alloc, output)?),
-        },
-    })
-}
-
-/// The first pages of object 0, in blocks from 2 on.
-fn first_pages(alloc: Global, count: u8) -> Result<Vec<PagePlace>, Fail> {
-    let mut pages = Vec::new(alloc);
-    for page in 0..count {
-        let page = u64::from(page);
-        pages.push(PagePlace {
-            object: 0,
-            page,
-            block: 2 + page,
-        })?;
-    }
-    Ok(pages)
-}
-
-fn spelled(alloc: Global, frame: &Frame, pages: &[PagePlace]) -> Result<Vec<u8>, Fail> {
-    if !frame_valid(frame) || !is_in_form(frame) {
-        return Err(Fail::new("the frame is not that of a checkpoint"));
-    }
-    Ok(write_meta(alloc, frame, pages)?)
-}
 
 /// The bytes with another number at a place.
 fn with_number(alloc: Global, bytes: &[u8], place: usize, number: u64) -> Result<Vec<u8>, Fail> {
@@ -118,45 +17,71 @@ fn with_number(alloc: Global, bytes: &[u8], place: usize, number: u64) -> Result
     Ok(changed)
 }
 
-/// Whether the bytes spell nothing.
-fn is_nothing(alloc: Global, bytes: &[u8]) -> Result<bool, Fail> {
-    Ok(read_meta(alloc, bytes, BLOCKS)?.is_none())
-}
-
-/// The record of a process with 13 pages.
-fn thirteen(alloc: Global) -> Result<Vec<u8>, Fail> {
-    let frame = frame_of(alloc, 13, 0x10000, b"")?;
-    let pages = first_pages(alloc, 13)?;
-    spelled(alloc, &frame, &pages)
+#[test]
+fn thirteen_pages_are_one_run(rt: HostRuntime) -> Result<(), Fail> {
+    let alloc = rt.alloc();
+    let bytes = thirteen(alloc, 2)?;
+    assert_eq!(rt; bytes.len(), 728);
+    assert_eq!(rt; num_at(&bytes, 0), Some(3_621_268_232_009_307_457));
+    assert_eq!(rt; num_at(&bytes, 688), Some(1));
+    assert_eq!(rt; num_at(&bytes, 712), Some(13));
+    assert_eq!(rt; num_at(&bytes, 721), None);
+    Ok(())
 }
 
 #[test]
-fn thirteen_pages_are_spelled_in_1008_bytes(rt: HostRuntime) -> Result<(), Fail> {
+fn the_first_format_lists_thirteen_pages(rt: HostRuntime) -> Result<(), Fail> {
     let alloc = rt.alloc();
-    let bytes = thirteen(alloc)?;
+    let bytes = thirteen(alloc, 1)?;
     assert_eq!(rt; bytes.len(), 1_008);
     assert_eq!(rt; num_at(&bytes, 0), Some(3_549_210_637_971_379_521));
     assert_eq!(rt; num_at(&bytes, 688), Some(13));
-    assert_eq!(rt; num_at(&bytes, 1_001), None);
-    assert!(rt; !is_nothing(alloc, &bytes)?);
+    Ok(())
+}
+
+#[test]
+fn a_record_is_read_in_its_own_format_alone(rt: HostRuntime) -> Result<(), Fail> {
+    let alloc = rt.alloc();
+    for written in 1..3u8 {
+        let bytes = thirteen(alloc, written)?;
+        for format in 0..5u8 {
+            assert_eq!(rt; is_nothing(alloc, format, &bytes)?, format != written);
+        }
+    }
+    Ok(())
+}
+
+#[test]
+fn the_text_of_one_format_before_the_other_spells_nothing(rt: HostRuntime) -> Result<(), Fail> {
+    let alloc = rt.alloc();
+    for (written, text) in [
+        (1, 3_621_268_232_009_307_457),
+        (2, 3_549_210_637_971_379_521),
+    ] {
+        let bytes = with_number(alloc, &thirteen(alloc, written)?, 0, text)?;
+        assert!(rt; is_nothing(alloc, 1, &bytes)?);
+        assert!(rt; is_nothing(alloc, 2, &bytes)?);
+    }
     Ok(())
 }
 
 #[test]
 fn fewer_or_more_bytes_spell_nothing(rt: HostRuntime) -> Result<(), Fail> {
     let alloc = rt.alloc();
-    let bytes = thirteen(alloc)?;
-    for length in 0..bytes.len() {
-        assert!(rt; is_nothing(alloc, &bytes[..length])?);
+    for format in 1..3u8 {
+        let bytes = thirteen(alloc, format)?;
+        for length in 0..bytes.len() {
+            assert!(rt; is_nothing(alloc, format, &bytes[..length])?);
+        }
+        let mut longer = bytes;
+        longer.push(0)?;
+        assert!(rt; is_nothing(alloc, format, &longer)?);
     }
-    let mut longer = bytes;
-    longer.push(0)?;
-    assert!(rt; is_nothing(alloc, &longer)?);
     Ok(())
 }
 
-/// Places of counts, a kind, a target, a state, a status, rights, a shared flag, a descriptor, pages and
-/// blocks, each with a number that can't stand there.
+/// Places of counts, a kind, a target, a state, a status, rights, a shared flag and a descriptor, each with a
+/// number that can't stand there in either format.
 const WRONG: &[(usize, u64)] = &[
     (0, 0),
     (56, 1),
@@ -180,23 +105,50 @@ const WRONG: &[(usize, u64)] = &[
     (560, 2),
     (632, 4),
     (640, 1),
+    (688, 0),
+    (688, 2),
     (688, 12),
     (688, 14),
+    (696, 2),
     (704, 13),
-    (712, 1),
-    (712, 16),
-    (720, 2),
-    (728, 0),
 ];
+
+/// The same of the first run, and of the second page in format 1.
+const WRONG_RUN: &[(usize, u64)] = &[
+    (696, 1),
+    (704, 1),
+    (704, u64::MAX),
+    (712, 0),
+    (712, 14),
+    (712, u64::MAX),
+    (720, 1),
+    (720, 4),
+    (720, u64::MAX),
+];
+
+const WRONG_PAGE: &[(usize, u64)] = &[(712, 1), (712, 16), (720, 2), (728, 0)];
+
+/// Whether each of these numbers at its place makes a record spell nothing.
+fn are_nothing(alloc: Global, format: u8, wrong: &[(usize, u64)]) -> Result<bool, Fail> {
+    let bytes = thirteen(alloc, format)?;
+    for (place, number) in wrong {
+        let changed = with_number(alloc, &bytes, *place, *number)?;
+        if !is_nothing(alloc, format, &changed)? {
+            return Ok(false);
+        }
+    }
+    Ok(true)
+}
 
 #[test]
 fn one_wrong_number_spells_nothing(rt: HostRuntime) -> Result<(), Fail> {
     let alloc = rt.alloc();
-    let bytes = thirteen(alloc)?;
-    for (place, number) in WRONG {
-        let changed = with_number(alloc, &bytes, *place, *number)?;
-        assert!(rt; is_nothing(alloc, &changed)?);
+    for format in 1..3u8 {
+        assert!(rt; are_nothing(alloc, format, WRONG)?);
+        assert!(rt; are_nothing(alloc, format, FAR)?);
     }
+    assert!(rt; are_nothing(alloc, 1, WRONG_PAGE)?);
+    assert!(rt; are_nothing(alloc, 2, WRONG_RUN)?);
     Ok(())
 }
 
@@ -211,7 +163,7 @@ fn is_read_again(
     let frame = frame_of(alloc, pages, pc, output)?;
     let places = first_pages(alloc, listed)?;
     let bytes = spelled(alloc, &frame, &places)?;
-    match read_meta(alloc, &bytes, BLOCKS)? {
+    match read_meta(alloc, 2, &bytes, BLOCKS)? {
         None => Ok(false),
         Some(meta) => {
             let again = spelled(alloc, &meta.frame, meta.pages.as_slice())?;
@@ -233,17 +185,18 @@ fn what_is_written_is_read_again(rt: HostRuntime) -> Result<(), Fail> {
     Ok(())
 }
 
-/// Slot A open at epoch 1, whose record has 1,008 bytes from block 15 on: the gate byte, and bytes 8 to 39.
+/// Slot A open at epoch 1, whose record has 728 bytes from block 15 on: the gate byte, and bytes 8 to 39.
 const SLOT: &[u8] =
-    b"\x01\0\0\0\0\0\0\0AURSLOT1\x01\0\0\0\0\0\0\0\x0f\0\0\0\0\0\0\0\xf0\x03\0\0\0\0\0\0";
+    b"\x01\0\0\0\0\0\0\0AURSLOT2\x01\0\0\0\0\0\0\0\x0f\0\0\0\0\0\0\0\xd8\x02\0\0\0\0\0\0";
 
 #[test]
 fn a_slot_opens_the_record_of_thirteen_pages(rt: HostRuntime) -> Result<(), Fail> {
     let alloc = rt.alloc();
-    let bytes = thirteen(alloc)?;
+    let bytes = thirteen(alloc, 2)?;
     let mut block = SLOT.to_vec(alloc)?;
     block.resize(4096, 0)?;
     let body = SlotBody {
+        format: 2,
         epoch: 1,
         first: 15,
         length: bytes.len() as u64,
@@ -272,14 +225,3 @@ const FAR: &[(usize, u64)] = &[
     (640, 1 << 32),
     (688, 1 << 61),
 ];
-
-#[test]
-fn one_length_off_spells_nothing(rt: HostRuntime) -> Result<(), Fail> {
-    let alloc = rt.alloc();
-    let bytes = thirteen(alloc)?;
-    for (place, number) in FAR {
-        let changed = with_number(alloc, &bytes, *place, *number)?;
-        assert!(rt; is_nothing(alloc, &changed)?, "{number} at {place}");
-    }
-    Ok(())
-}

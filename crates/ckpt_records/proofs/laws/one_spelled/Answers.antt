@@ -1,4 +1,4 @@
-use Rattle.ckpt_records.proofs.PartLaws.{spells_once}
+use Rattle.ckpt_records.proofs.SpellLaws.{spells_once}
 use Rattle.ckpt_records.proofs.laws.one_spelled.Goals as goal
 
 pub returns : goal.returns

@@ -1,5 +1,5 @@
 use Rattle.std.proofs.Common.{◌≡◌, arith}
-use Rattle.ckpt_records.proofs.PartLaws.{written_record}
+use Rattle.ckpt_records.proofs.SpellLaws.{written_record}
 use Rattle.ckpt_records.proofs.record.write_meta.Goals as goal
 
 pub returns-in-Ok-clause-spelled : goal.returns-in-Ok-clause-spelled

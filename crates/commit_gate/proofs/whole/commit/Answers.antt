@@ -7,7 +7,7 @@ use Rattle.dev_traits.specs.Since.{LeavesOnly, goes_then, weaker}
 use Rattle.ckpt_chain.specs.Slot.{gate_place}
 use Rattle.ckpt_chain.specs.declared.slot.Slot.{Slot}
 use Rattle.ckpt_chain.specs.declared.slot.SlotBody.{SlotBody}
-use Rattle.commit_gate.specs.Commit.{IsBeforeLaid, IsTornAt, touched}
+use Rattle.commit_gate.specs.Commit.{IsBeforeLaid, IsTornAt, PassesOver, touched}
 use Rattle.commit_gate.specs.Whole.{numbers, laid_on, finished, IsBeforeBodied, IsDuring, StepsInOrder, InOrderToBody, FailsInOrder, Reads, closing, AddsCommit, AddsNone}
 use Rattle.commit_gate.specs.Parts.{Goes, HasFailed, GatesLast, gathered, whole_commit, stays, IsSlotOpening}
 use Rattle.commit_gate.specs.declared.whole.Block.{Block}
@@ -49,8 +49,18 @@ module _ (target : Slot) (close : Bool) (blocks : List Block) (body : SlotBody) 
         goes_goes P (closing close + length blocks) 2 nothing_written (gathered blocks) u v w begun_part ends nothing_written
         (goes_weaker (IsSlotOpening slot body v.reading) P opening 2 (gathered blocks) v w ends nothing_written goes)
 
-    in_order : LeavesOnly v w (IsSlotOpening slot body v.reading) → GatesLast slot body v w → StepsInOrder target close blocks body u w
-    in_order leaves last = record {
+    laying : (image : List ℕ) → early image → ForSome u.reading (λ r. SameOutside (touched target close (numbers blocks)) r image ⊎ IsBeforeBodied target close blocks r image)
+    laying image before r is = inl (before r is)
+
+    writing : (image : List ℕ) → IsTornAt (gate_place slot + 8) 32 v.reading image → ForSome u.reading (λ r. SameOutside (touched target close (numbers blocks)) r image ⊎ IsBeforeBodied target close blocks r image)
+    writing image torn r is = inr (body_step target close blocks body u.reading v.reading slot laid same image torn r is)
+
+    -- what isn't left since the blocks were laid was left before
+    not_since : PassesOver v w → (image : List ℕ) → w.left u.moment image → w.left v.moment image ⊎ early image
+    not_since over image left = ⊎_elim (λ old. inr (first.images.each image old)) (λ now. inl now) (over.since u.moment image first.images.later left)
+
+    in_order : LeavesOnly v w (IsSlotOpening slot body v.reading) → PassesOver v w → GatesLast slot body v w → StepsInOrder target close blocks body u w
+    in_order leaves over last = record {
       laid = v.moment;
       bodied = last.bodied;
       first = first.images.later;
@@ -58,27 +68,25 @@ module _ (target : Slot) (close : Bool) (blocks : List Block) (body : SlotBody) 
       last = last.last;
       since_laid = λ image left. opening_steps target close blocks body u.reading v.reading slot laid same image (leaves.each image left);
       since_bodied = λ image left. gate_step target close blocks body u.reading v.reading slot laid same image (last.since image left);
+      until_laid = not_since over;
+      until_bodied = λ image left.
+          ⊎_elim (λ now. inl now) (λ old. inr (⊎_elim (λ at_start. laying image (first.images.each image at_start)) (writing image) old)) (last.until u.moment image first.images.later left);
     }
 
-    to_body : LeavesOnly v w (IsTornAt (gate_place slot + 8) 32 v.reading) → InOrderToBody target close blocks u w
-    to_body leaves = record {
+    to_body : LeavesOnly v w (IsTornAt (gate_place slot + 8) 32 v.reading) → PassesOver v w → InOrderToBody target close blocks u w
+    to_body leaves over = record {
       laid = v.moment;
       first = first.images.later;
       last = leaves.later;
       images = weaker u w (λ image. early image ⊎ IsTornAt (gate_place slot + 8) 32 v.reading image) _ (λ image either. ⊎_elim (laying image) (writing image) either)
           (goes_then u v w early (IsTornAt (gate_place slot + 8) 32 v.reading) first.images leaves);
       since_laid = λ image left. body_step target close blocks body u.reading v.reading slot laid same image (leaves.each image left);
+      until_laid = not_since over;
     }
-      where
-        laying : (image : List ℕ) → early image → ForSome u.reading (λ r. SameOutside (touched target close (numbers blocks)) r image ⊎ IsBeforeBodied target close blocks r image)
-        laying image before r is = inl (before r is)
 
-        writing : (image : List ℕ) → IsTornAt (gate_place slot + 8) 32 v.reading image → ForSome u.reading (λ r. SameOutside (touched target close (numbers blocks)) r image ⊎ IsBeforeBodied target close blocks r image)
-        writing image torn r is = inr (body_step target close blocks body u.reading v.reading slot laid same image torn r is)
-
-    fails_in_order : LeavesOnly v w (IsSlotOpening slot body v.reading) → LeavesOnly v w (IsTornAt (gate_place slot + 8) 32 v.reading) ⊎ GatesLast slot body v w → FailsInOrder target close blocks body u w
-    fails_in_order leaves (inl torn) = inr (inl (to_body torn))
-    fails_in_order leaves (inr last) = inr (inr (in_order leaves last))
+    fails_in_order : LeavesOnly v w (IsSlotOpening slot body v.reading) → PassesOver v w → LeavesOnly v w (IsTornAt (gate_place slot + 8) 32 v.reading) ⊎ GatesLast slot body v w → FailsInOrder target close blocks body u w
+    fails_in_order leaves over (inl torn) = inr (inl (to_body torn over))
+    fails_in_order leaves over (inr last) = inr (inr (in_order leaves over last))
 
 -- the commits, from the open one that the disk told
 adds_none : (P : List ℕ → Type 0) (n : ℕ) (u w : DiskView) → HasFailed P n nothing_written u w → AddsNone u w
@@ -132,7 +140,7 @@ returns-in-Err-open_gate g c =
       images = tt;
       images_err = all.images;
       order = tt;
-      order_err = fails_in_order c.args.target c.args.close blocks c.args.body u v w c.in-Ok.laid.target e.target e.laid e.goes fails.images c.in-Err-open_gate.ensures.order_err;
+      order_err = fails_in_order c.args.target c.args.close blocks c.args.body u v w c.in-Ok.laid.target e.target e.laid e.goes fails.images c.in-Err-open_gate.ensures.time_err c.in-Err-open_gate.ensures.order_err;
       commits = tt;
       commits_err = adds_none _ _ _ _ all;
       writes = tt;
@@ -163,7 +171,7 @@ returns-in-Ok-open_gate g c =
       blocks_err = tt;
       images = all.images;
       images_err = tt;
-      order = in_order target close blocks body u v w slot e.target e.laid e.goes (d.goes blocks).images d.order;
+      order = in_order target close blocks body u v w slot e.target e.laid e.goes (d.goes blocks).images d.time d.order;
       order_err = tt;
       commits = adds_one _ _ _ _ _ _ all;
       commits_err = tt;

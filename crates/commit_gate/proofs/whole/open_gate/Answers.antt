@@ -1,4 +1,4 @@
-use Rattle.std.proofs.Common.{◌≡◌, ◌+◌, ◌≤◌, ◌∷◌, ◌++◌, inl, inr, ℕ, List, [], ap, sym, ◌∙◌, subst, refl, arith}
+use Rattle.std.proofs.Common.{◌≡◌, ◌+◌, ◌≤◌, ◌∷◌, ◌++◌, inl, inr, ⊎_elim, ℕ, List, [], ap, sym, ◌∙◌, subst, refl, arith}
 use Rattle.dev_traits.specs.Counts.{one_more}
 use Rattle.lists.specs.Bytes.{put, SameOutside}
 use Rattle.dev_traits.specs.Commits.{Commit, nothing_written}
@@ -7,7 +7,7 @@ use Rattle.dev_traits.specs.Disk.{DiskView, CommitsBy, Puts}
 use Rattle.ckpt_chain.specs.Slot.{gate_place, body_bytes}
 use Rattle.ckpt_chain.specs.declared.slot.Slot.{Slot}
 use Rattle.ckpt_chain.specs.declared.slot.SlotBody.{SlotBody}
-use Rattle.commit_gate.specs.Commit.{IsTornAt, put_down}
+use Rattle.commit_gate.specs.Commit.{IsTornAt, PassesOver, put_down}
 use Rattle.commit_gate.specs.Whole.{finished}
 use Rattle.commit_gate.specs.Parts.{IsSlotOpening, Goes, GatesLast, gathered, whole_commit, stays}
 use Rattle.commit_gate.specs.declared.whole.Block.{Block}
@@ -102,12 +102,14 @@ returns-clause-done g c =
     c.in-Ok.ensures.put (ap (λ x. (g.D.Disk.view x).reading) c.into_disk.ensures.same ∙ gate) (λ r is. refl)
 
 -- the gate is written over the body
-gates_last : (t s : Slot) (body : SlotBody) (u v w : DiskView) → t ≡ s → u.moment ≤ v.moment → Puts (gate_place s + 8) (body_bytes body) u v → LeavesOnly v w (IsTornAt (gate_place t) 1 v.reading) → GatesLast s body u w
-gates_last t s body u v w same later puts leaves = record {
+gates_last : (t s : Slot) (body : SlotBody) (u v w : DiskView) → t ≡ s → LeavesOnly u v (IsTornAt (gate_place s + 8) 32 u.reading) → Puts (gate_place s + 8) (body_bytes body) u v
+    → LeavesOnly v w (IsTornAt (gate_place t) 1 v.reading) → PassesOver v w → GatesLast s body u w
+gates_last t s body u v w same first puts leaves over = record {
   bodied = v.moment;
-  first = later;
+  first = first.later;
   last = leaves.later;
   since = λ image left r is. subst (λ (x : Slot). SameOutside ((gate_place x, 1) ∷ []) r image) same (leaves.each image left r (puts ∙ is));
+  until = λ moment image le left. ⊎_elim (λ old. inr (first.before moment image le old)) (λ now. inl now) (over.since moment image (omega (arith, le, first.later)) left);
 }
 
 pub returns-in-Err-clause-order_err : goal.returns-in-Err-clause-order_err
@@ -116,11 +118,13 @@ returns-in-Err-clause-order_err g c = inl c.in-Err.ensures.images_err
 pub returns-in-Err-gate-clause-order_err : goal.returns-in-Err-gate-clause-order_err
 returns-in-Err-gate-clause-order_err g c =
     let d = c.in-Ok.ensures in
-    inr (gates_last c.in-Ok.bodied.target c.args.laid.target c.args.body _ _ _ d.same.0 d.images.later d.put c.in-Err-gate.ensures.images_err)
+    let e = c.in-Err-gate.ensures in
+    inr (gates_last c.in-Ok.bodied.target c.args.laid.target c.args.body _ _ _ d.same.0 d.images d.put e.images_err e.time_err)
 
 pub returns-clause-order : goal.returns-clause-order
 returns-clause-order g c =
     let d = c.in-Ok.ensures in
+    let e = c.in-Ok-gate.ensures in
     let u = g.D.Disk.view c.args.laid.disk in
     subst (λ x. GatesLast c.args.laid.target c.args.body u (g.D.Disk.view x)) (sym c.into_disk.ensures.same)
-    (gates_last c.in-Ok.bodied.target c.args.laid.target c.args.body _ _ _ d.same.0 d.images.later d.put c.in-Ok-gate.ensures.images)
+    (gates_last c.in-Ok.bodied.target c.args.laid.target c.args.body _ _ _ d.same.0 d.images d.put e.images e.time)
