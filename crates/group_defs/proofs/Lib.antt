@@ -1,4 +1,0 @@
-pub mod StepLaws
-pub mod Seen
-pub mod Inside
-pub mod Others

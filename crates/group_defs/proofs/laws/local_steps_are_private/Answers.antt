@@ -1,5 +1,0 @@
-use Rattle.group_defs.proofs.StepLaws.{local_is_private}
-use Rattle.group_defs.proofs.laws.local_steps_are_private.Goals as goal
-
-pub returns : goal.returns
-returns c = local_is_private

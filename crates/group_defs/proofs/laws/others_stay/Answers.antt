@@ -1,8 +1,0 @@
-use Rattle.group_defs.proofs.Others.{others_stay, elsewhere_untouched}
-use Rattle.group_defs.proofs.laws.others_stay.Goals as goal
-
-pub returns-clause-processes : goal.returns-clause-processes
-returns-clause-processes c = others_stay
-
-pub returns-clause-pages : goal.returns-clause-pages
-returns-clause-pages c = elsewhere_untouched
