@@ -1,37 +1,32 @@
 -- A step that isn't local leaves a valid group, with at most as much output as there was room for.
-use Rattle.std.proofs.Common.{◌≡◌, ℕ, ◌+◌, ◌-◌, ◌*◌, ◌%◌, ◌^◌, ◌<◌, ◌≤◌, ◌==◌, ◌||◌, Bool, true, false, List, [], Option, Some, None, refl, sym, ap, subst, ◌∙◌, arith, length-append, length-set}
+use Rattle.std.proofs.Common.{◌≡◌, ℕ, ◌+◌, ◌-◌, ◌*◌, ◌%◌, ◌^◌, ◌<◌, ◌≤◌, ◌==◌, Bool, true, false, List, [], length, Option, Some, None, refl, sym, ap, subst, ◌∙◌, arith, length-append}
 use Rattle.std.specs.Prelude.{if◌then◌else◌, min}
-use Rattle.std.proofs.lemmas.List.Elements.{All-set, All-append}
 use Rattle.rv64_isa.specs.declared.regs.Regs.{Regs}
 use Rattle.rv64_isa.specs.Instruction.{Effect, steps, calls, traps, instruction, is_step}
-use Rattle.rv64_isa.specs.Memory.{Cells, readable}
-use Rattle.rv64_isa.specs.Numbers.{low_word}
+use Rattle.rv64_isa.specs.Memory.{readable}
 use Rattle.rv64_isa.specs.Registers.{a0, a1, a2, answered, call_number}
 use Rattle.group_defs.specs.declared.frame.Out.{Out}
 use Rattle.group_defs.specs.declared.frame.Proc.{Proc}
 use Rattle.address_maps.specs.declared.maps.Mapping.{Mapping}
-use Rattle.descriptors.specs.declared.opens.Open.{Open}
-use Rattle.group_defs.specs.Calls.{Reply, waits, refuses, answers, ends, reply_map}
-use Rattle.group_defs.specs.declared.calls.TheConstants.{EBADF, ENOSYS}
+use Rattle.group_defs.specs.Built.{OnlyBuilt}
+use Rattle.group_defs.specs.Calls.{Reply, waits, refuses, answers, ends, fd_of}
+use Rattle.group_defs.specs.declared.calls.TheConstants.{EBADF, EFAULT, ENOSYS}
 use Rattle.group_defs.specs.Cells.{cells_of}
-use Rattle.group_defs.specs.Exit.{exit}
+use Rattle.group_defs.specs.Changes.{open_at, with_out}
 use Rattle.group_defs.specs.Group.{Group}
-use Rattle.group_defs.specs.Numbers.{RegsFit}
-use Rattle.lists.specs.Bytes.{AreBytes}
 use Rattle.group_defs.specs.Output.{last_position, room, with_output}
-use Rattle.group_defs.specs.Step.{with_out, reply_in, reply_to, after_reply, after_effect, do_step, is_local}
-use Rattle.group_defs.specs.Valid.{OutValid}
-use Rattle.group_defs.specs.Write.{write, write_outside, put_outside, open_at}
+use Rattle.group_defs.specs.ReadWrite.{write, write_outside, put_outside}
+use Rattle.group_defs.specs.Step.{after_effect, after_reply, group_step, is_local, reply_to}
+use Rattle.group_defs.specs.Valid.{GroupIsValid, OutValid}
+use Rattle.group_laws.proofs.ServedLaws.{served_reply}
 use Rattle.group_kernel.specs.Descriptors.{is_at_outside}
 use Rattle.group_kernel.specs.Engine.{running_process, running_group, IsRunnable}
-use Rattle.group_kernel.specs.Registers.{AreRegisters}
 use Rattle.group_kernel.specs.declared.engine_group.Fixed.{Fixed}
+use Rattle.group_kernel.proofs.BuiltLaws.{ended_built, running_built}
 use Rattle.group_kernel.proofs.CallLaws.{answered_with, written_by}
-use Rattle.group_kernel.proofs.EffectLaws.{advanced_stays}
-use Rattle.group_kernel.proofs.LocalLaws.{aligned}
-use Rattle.group_kernel.proofs.ReadLaws.{IsByte, IsCount, AreBytesIn, read_count, read_bytes, seen_bytes}
+use Rattle.group_kernel.proofs.ReadLaws.{IsCount, read_count}
 use Rattle.group_kernel.proofs.StepLaws.{goes_on, ends_all, step_is, local_is}
-use Rattle.group_kernel.proofs.ValidLaws.{running_stays, ended_stays}
+use Rattle.group_kernel.proofs.ValidLaws.{served_step_valid}
 
 -- ---- the output after a call
 
@@ -39,143 +34,97 @@ use Rattle.group_kernel.proofs.ValidLaws.{running_stays, ended_stays}
 pub record Grew (before after : Out) : Type 0 where
   pub from : after.from ≡ before.from
   pub mark : after.mark ≡ before.mark
-  pub bytes : AreBytes after.bytes
-  pub least : last_position before ≤ last_position after
   pub most : last_position after ≤ before.mark + 1048576
 
--- a reply that leaves a valid group
-abbrev Keeps : Out → Reply Out → Type 0
-Keeps out waits = Unit {0}
-Keeps out (refuses errno) = 1 ≤ errno
-Keeps out (answers value after writes) = (value < 2 ^ 64) × (writes ≡ []) × Grew out after
-Keeps out (ends status) = Unit {0}
-
-grew_none : (out : Out) → OutValid out → AreBytes out.bytes → Grew out out
+grew_none : (out : Out) → OutValid out → Grew out out
 unfolding OutValid
-grew_none out valid bytes = record { from = refl; mark = refl; bytes = bytes; least = omega arith; most = valid.4 }
+grew_none out valid = record { from = refl; mark = refl; most = valid.4 }
 
-put_keeps : (out : Out) (n : ℕ) (o : Option (List ℕ)) → OutValid out → AreBytes out.bytes → n ≤ room out → IsCount n o → AreBytesIn o → Keeps out (put_outside out o)
-unfolding OutValid AreBytes
-put_keeps out n None valid bytes fits count are = omega arith
-put_keeps out n (Some new) valid bytes fits count are =
-    let last : last_position (with_output out new) ≡ last_position out + n = omega (arith, count, length-append out.bytes new) in (
-      omega (arith, count, fits, valid.1),
-      refl,
-      record {
-        from = refl;
-        mark = refl;
-        bytes = All-append (λ b. b < 256) out.bytes new bytes are;
-        least = omega (arith, last);
-        most = omega (arith, last, fits, valid.1, valid.4);
-      },
-    )
-
-outside_by : (out : Out) (n : ℕ) (o : Option (List ℕ)) (t u : Bool) → OutValid out → AreBytes out.bytes → n ≤ room out → IsCount n o → AreBytesIn o → Keeps out (if t then answers 0 out [] else if u then waits else put_outside out o)
-outside_by out n o true u valid bytes fits count are = (omega arith, refl, grew_none out valid bytes)
-outside_by out n o false true valid bytes fits count are = tt
-outside_by out n o false false valid bytes fits count are = put_keeps out n o valid bytes fits count are
-
-outside_keeps : (out : Out) (cells : Cells) (buf n : ℕ) → OutValid out → AreBytes out.bytes → ((a : ℕ) → IsByte (cells a)) → Keeps out (write_outside out cells buf n)
-outside_keeps out cells buf n valid bytes seen =
-    outside_by out (min n (room out)) (readable cells buf (min n (room out))) (n == 0) (room out == 0) valid bytes (omega arith) (read_count cells 1 buf (min n (room out))) (read_bytes cells 1 buf (min n (room out)) seen)
-
-chosen_keeps : (out : Out) (reply : Reply Out) (t : Bool) → Keeps out reply → Keeps out (if t then reply else refuses EBADF)
-chosen_keeps out reply true keeps = keeps
-chosen_keeps out reply false keeps = omega arith
-
-write_keeps : (fds : List (ℕ × ℕ)) (opens : List Open) (out : Out) (cells : Cells) (r : Regs) → OutValid out → AreBytes out.bytes → ((a : ℕ) → IsByte (cells a)) → Keeps out (write fds opens out cells r)
-unfolding write
-write_keeps fds opens out cells r valid bytes seen =
-    let o = open_at fds opens (low_word (a0 r)) in
-    subst (Keeps out) (sym (written_by out cells r o)) (chosen_keeps out (write_outside out cells (a1 r) (a2 r)) (is_at_outside o) (outside_keeps out cells (a1 r) (a2 r) valid bytes seen))
+-- as many bytes behind it as there is room for
+grew_by : (out : Out) (n : ℕ) (new : List ℕ) → OutValid out → n ≤ room out → length new ≡ n → Grew out (with_output out new)
+unfolding OutValid
+grew_by out n new valid fits count =
+    let last : last_position (with_output out new) ≡ last_position out + n = omega (arith, count, length-append out.bytes new) in
+    record { from = refl; mark = refl; most = omega (arith, last, fits, valid.1, valid.4) }
 
 -- ---- the group after a step
 
--- a valid group, whose output grew
+-- a group of what is built, whose output grew
+record Goes (before : Out) (h : Group) : Type 0 where
+  built : OnlyBuilt h.frame
+  grew : Grew before h.frame.out
+
+-- a valid one
 pub record Follows (before : Out) (h : Group) : Type 0 where
   pub runnable : IsRunnable h
   pub grew : Grew before h.frame.out
 
-module _ (fixed : Fixed) (maps : List Mapping) (r : Regs) (memory : List (ℕ × List ℕ)) (out : Out) (runs : IsRunnable (running_group fixed maps r memory out)) (room_left : last_position out + 1048576 < 2 ^ 63) where
+module _ (fixed : Fixed) (maps : List Mapping) (r : Regs) (memory : List (ℕ × List ℕ)) (out : Out) (runs : IsRunnable (running_group fixed maps r memory out)) where
   abbrev g : Group
   g = running_group fixed maps r memory out
 
   abbrev p : Proc
   p = running_process fixed maps r
 
-  registers : AreRegisters r
-  unfolding RegsFit
-  registers = let fit = runs.valid.sound.frame.procs.regs 0 p (omega arith) in record { pc = fit.0; count = fit.1; numbers = fit.2 }
-
-  answered_fits : (value : ℕ) → value < 2 ^ 64 → AreRegisters (answered r value)
-  answered_fits value fits = record {
-    pc = omega arith;
-    count = length-set r.x 9 value ∙ registers.count;
-    numbers = All-set (λ x. x < 2 ^ 64) r.x 9 value fits registers.numbers;
-  }
-
   output_valid : OutValid out
   output_valid = runs.valid.sound.frame.out.positions
 
-  output_bytes : AreBytes out.bytes
-  output_bytes = runs.valid.sound.frame.out.bytes
-
-  after_valid : (after : Out) → Grew out after → OutValid after
-  unfolding OutValid
-  after_valid after grew = (
-    omega (arith, output_valid.0, grew.from, grew.mark),
-    omega (arith, output_valid.1, grew.mark, grew.least),
-    omega (arith, output_valid.1, grew.most, room_left),
-    omega (arith, output_valid.3, grew.from, grew.mark),
-    omega (arith, grew.mark, grew.most),
-  )
-
   -- it goes on after a call
-  answer_follows : (after : Out) (value : ℕ) → value < 2 ^ 64 → Grew out after → Follows out (running_group fixed maps (answered r value) memory after)
-  answer_follows after value fits grew = record {
-    runnable = running_stays fixed maps r (answered r value) memory memory out after runs (answered_fits value fits) (advanced_stays r (aligned fixed maps r memory out runs)) runs.valid.sound.memory.bytes (after_valid after grew) grew.bytes;
-    grew = grew;
-  }
+  goes_with : (s : Regs) (after : Out) → Grew out after → Goes out (running_group fixed maps s memory after)
+  goes_with s after grew = record { built = running_built fixed maps r s memory memory out after runs.built; grew = grew }
 
-  same_follows : Follows out g
-  same_follows = record { runnable = runs; grew = grew_none out output_valid output_bytes }
+  answer_goes : (after : Out) (value : ℕ) → Grew out after → Goes out (after_reply g p (answers value (with_out g after) []))
+  answer_goes after value grew = subst (Goes out) (sym (answered_with fixed maps r memory out after value)) (goes_with (answered r value) after grew)
 
-  end_follows : (status : ℕ) → Follows out (after_reply g p (ends status))
-  end_follows status =
-      subst (Follows out) (sym (ends_all fixed maps r memory out status))
-      (record { runnable = ended_stays fixed maps r memory out out runs output_valid output_bytes; grew = grew_none out output_valid output_bytes })
+  refusal_goes : (errno : ℕ) → Goes out (after_reply g p (refuses errno))
+  refusal_goes errno = subst (Goes out) (sym (goes_on fixed maps r memory out (answered r (2 ^ 64 - errno)))) (goes_with (answered r (2 ^ 64 - errno)) out (grew_none out output_valid))
 
-  refusal_follows : (errno : ℕ) → 1 ≤ errno → Follows out (after_reply g p (refuses errno))
-  refusal_follows errno some =
-      subst (Follows out) (sym (goes_on fixed maps r memory out (answered r (2 ^ 64 - errno))))
-      (answer_follows out (2 ^ 64 - errno) (omega (arith, some)) (grew_none out output_valid output_bytes))
+  wait_goes : Goes out (after_reply g p waits)
+  wait_goes = record { built = runs.built; grew = grew_none out output_valid }
 
-  reply_follows : (reply : Reply Out) → Keeps out reply → Follows out (after_reply g p (reply_map (with_out g) reply))
-  reply_follows waits keeps = same_follows
-  reply_follows (refuses errno) keeps = refusal_follows errno keeps
-  reply_follows (answers value after writes) keeps =
-      subst (λ ws. Follows out (after_reply g p (answers value (with_out g after) ws))) (sym keeps.1)
-      (subst (Follows out) (sym (answered_with fixed maps r memory out after value)) (answer_follows after value keeps.0 keeps.2))
-  reply_follows (ends status) keeps = end_follows status
+  end_goes : (status : ℕ) → Goes out (after_reply g p (ends status))
+  end_goes status = subst (Goes out) (sym (ends_all fixed maps r memory out status)) (record { built = ended_built fixed.next out; grew = grew_none out output_valid })
 
-  number_follows : (t u : Bool) → Follows out (after_reply g p (if t then reply_map (with_out g) (write fixed.fds fixed.opens out (cells_of memory maps) r) else if u then exit r else refuses ENOSYS))
-  number_follows true u =
-      reply_follows (write fixed.fds fixed.opens out (cells_of memory maps) r)
-      (write_keeps fixed.fds fixed.opens out (cells_of memory maps) r output_valid output_bytes (λ a. seen_bytes fixed.objects memory maps a runs.valid.sound.memory.bytes))
-  number_follows false true = end_follows (256 * (a0 r % 256))
-  number_follows false false = refusal_follows ENOSYS (omega arith)
+  -- a write to the outside
+  put_goes : (n : ℕ) (o : Option (List ℕ)) → n ≤ room out → IsCount n o → Goes out (after_reply g p (put_outside g o))
+  put_goes n None fits count = refusal_goes EFAULT
+  put_goes n (Some new) fits count = answer_goes (with_output out new) (length new) (grew_by out n new output_valid fits count)
 
-  call_follows : Follows out (after_reply g p (reply_to g p))
-  unfolding reply_in
-  call_follows = number_follows (call_number r == 64) ((call_number r == 93) || (call_number r == 94))
+  outside_by : (n : ℕ) (o : Option (List ℕ)) (t u : Bool) → n ≤ room out → IsCount n o → Goes out (after_reply g p (if t then answers 0 g [] else if u then waits else put_outside g o))
+  outside_by n o true u fits count = answer_goes out 0 (grew_none out output_valid)
+  outside_by n o false true fits count = wait_goes
+  outside_by n o false false fits count = put_goes n o fits count
 
-  effect_follows : (e : Effect) → is_step e ≡ false → Follows out (after_effect g p e)
-  effect_follows (steps s write) other = absurd (cc)
-  effect_follows calls other = call_follows
-  effect_follows (traps status) other = end_follows status
+  outside_goes : (buf n : ℕ) → Goes out (after_reply g p (write_outside g (cells_of memory maps) buf n))
+  outside_goes buf n =
+      let most = min n (room out) in
+      outside_by most (readable (cells_of memory maps) buf most) (n == 0) (room out == 0) (omega arith) (read_count (cells_of memory maps) 1 buf most)
+
+  chosen_goes : (reply : Reply Group) (t : Bool) → Goes out (after_reply g p reply) → Goes out (after_reply g p (if t then reply else refuses EBADF))
+  chosen_goes reply true goes = goes
+  chosen_goes reply false goes = refusal_goes EBADF
+
+  write_goes : Goes out (after_reply g p (write g p (cells_of memory maps) r))
+  write_goes =
+      subst (λ (reply : Reply Group). Goes out (after_reply g p reply)) (sym (written_by g (cells_of memory maps) r fixed.fds fixed.opens runs.built.opens))
+      (chosen_goes (write_outside g (cells_of memory maps) (a1 r) (a2 r)) (is_at_outside (open_at fixed.fds fixed.opens (fd_of r))) (outside_goes (a1 r) (a2 r)))
+
+  call_goes : Goes out (after_reply g p (reply_to true g p))
+  call_goes =
+      let exits = end_goes (256 * (a0 r % 256)) in
+      served_reply (λ (n : ℕ) (reply : Reply Group). Goes out (after_reply g p reply)) true g p write_goes exits exits (λ n none. refusal_goes ENOSYS) (call_number r)
+
+  effect_goes : (e : Effect) → is_step e ≡ false → Goes out (after_effect true g p e)
+  effect_goes (steps s write) other = absurd (cc)
+  effect_goes calls other = call_goes
+  effect_goes (traps status) other = end_goes status
 
   -- whatever the step is that isn't local
-  pub other_follows : (h : Group) → h ≡ g → is_local h fixed.pid ≡ false → Follows out (do_step h fixed.pid)
-  other_follows h is other =
+  pub other_follows : last_position out + 1048576 < 2 ^ 63 → (h : Group) → h ≡ g → is_local h fixed.pid ≡ false → Follows out (group_step true h fixed.pid)
+  other_follows room_left h is other =
       let effect_other : is_step (instruction (cells_of memory maps) r) ≡ false = sym (ap (λ (x : Group). is_local x fixed.pid) is ∙ local_is fixed maps r memory out runs) ∙ other in
-      subst (Follows out) (sym (ap (λ (x : Group). do_step x fixed.pid) is ∙ step_is fixed maps r memory out)) (effect_follows (instruction (cells_of memory maps) r) effect_other)
+      let goes : Goes out (group_step true h fixed.pid) = subst (Goes out) (sym (ap (λ (x : Group). group_step true x fixed.pid) is ∙ step_is fixed maps r memory out)) (effect_goes (instruction (cells_of memory maps) r) effect_other) in
+      record {
+        runnable = record { valid = subst (λ (x : Group). GroupIsValid (group_step true x fixed.pid)) (sym is) (served_step_valid g fixed.pid runs.valid (omega (arith, room_left))); built = goes.built };
+        grew = goes.grew;
+      }

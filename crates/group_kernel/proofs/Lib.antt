@@ -1,6 +1,6 @@
 pub mod BarrierLaws
+pub mod BuiltLaws
 pub mod CallLaws
-pub mod EffectLaws
 pub mod KeptLaws
 pub mod LocalLaws
 pub mod MemoryAppends
@@ -10,7 +10,6 @@ pub mod MemoryNumbers
 pub mod MemoryParts
 pub mod MemoryPlaces
 pub mod MemoryReads
-pub mod MemorySample
 pub mod MappedBytes
 pub mod MemoryStores
 pub mod PartsLaws
@@ -18,7 +17,6 @@ pub mod PlaceLaws
 pub mod ReadLaws
 pub mod StepLaws
 pub mod TurnLaws
-pub mod TurnSample
 pub mod ValidLaws
 pub mod WaitLaws
 pub mod EngineLaws

@@ -4,7 +4,7 @@ use Rattle.std.specs.Int.{from_le_bytes}
 use Rattle.std.proofs.lemmas.List.{get_or_default}
 use Rattle.std.proofs.lemmas.List.Elements.{All-head, All-tail}
 use Rattle.rv64_isa.specs.Numbers.{number_of}
-use Rattle.rv64_core.proofs.Bytes.{room}
+use Rattle.rv64_core.specs.ByteLaws.{room}
 use Rattle.lists.specs.Bytes.{AreBytes}
 
 abbrev pub zeros : List ℕ

@@ -13,7 +13,7 @@ use Rattle.group_defs.specs.Mappings.{IsUserMapping}
 use Rattle.tables.specs.Rising.{Rise}
 use Rattle.group_kernel.specs.declared.mapped_byte.MappedByte.{MappedByte}
 use Rattle.group_kernel.specs.Memory.{IsMappedByte, TableFits}
-use Rattle.group_defs.proofs.Seen.{stored_bytes}
+use Rattle.group_laws.proofs.SeenLaws.{stored_bytes}
 use Rattle.group_kernel.proofs.MemoryLaws.{inside_of}
 use Rattle.group_kernel.proofs.MemoryReads.{along, found_has}
 

@@ -1,5 +1,5 @@
 -- Parts of at most one process, as the engine's group.
-use Rattle.std.proofs.Common.{◌≡◌, ◌⊎◌, ℕ, zero, suc, ◌+◌, ◌-◌, ◌<◌, ◌≤◌, true, List, [], ◌∷◌, ◌++◌, length, map, take, get_or, refl, sym, ap, ◌∙◌, subst, arith, append_assoc, append-nil, length-append}
+use Rattle.std.proofs.Common.{◌≡◌, ℕ, zero, suc, ◌+◌, ◌-◌, ◌<◌, ◌≤◌, true, List, [], ◌∷◌, ◌++◌, length, map, take, get_or, refl, sym, ap, ◌∙◌, subst, arith, append_assoc, append-nil, length-append}
 use Rattle.std.specs.Prelude.{All, IsTrue}
 use Rattle.std.proofs.lemmas.Bool.{false≢true}
 use Rattle.std.proofs.lemmas.List.Elements.{All-head, All-nil}
@@ -166,7 +166,7 @@ not_kept : (n : ℕ) → is_kept [] [] n ≡ true → ⊥
 unfolding is_kept is_of_file
 not_kept n kept = false≢true kept
 
-not_held : (n : ℕ) → is_held [] n ≡ true → ⊥
+not_held : (n : ℕ) → is_held [] [] n ≡ true → ⊥
 unfolding is_held
 not_held n held = false≢true held
 
@@ -176,8 +176,11 @@ no_objects f valid built none =
     (λ o is. not_kept o.number (subst (λ (ps : List Proc). is_kept [] ps o.number ≡ true) none (subst (λ (files : List FileRec). is_kept files f.procs o.number ≡ true) built.files is)))
     valid.held.objects
 
-no_opens : (f : Frame) → FrameValid f → f.procs ≡ [] → f.opens ≡ []
-no_opens f valid none = none_left (λ o. IsTrue (is_held f.procs o.number)) f.opens (λ o is. not_held o.number (subst (λ (ps : List Proc). is_held ps o.number ≡ true) none is)) valid.held.opens
+no_opens : (f : Frame) → FrameValid f → OnlyBuilt f → f.procs ≡ [] → f.opens ≡ []
+no_opens f valid built none =
+    none_left (λ o. IsTrue (is_held f.procs f.pairs o.number)) f.opens
+    (λ o is. not_held o.number (subst (λ (ps : List Proc). is_held ps [] o.number ≡ true) none (subst (λ (pairs : List Pair). is_held f.procs pairs o.number ≡ true) built.pairs is)))
+    valid.held.opens
 
 empty_fits : TableFits [] []
 unfolding AreApart Rise
@@ -203,4 +206,4 @@ group_of_none f layers valid built none =
     let whole : List ObjectRec → List Open → Frame = λ os ds. frame_with [] os ds f.next f.out in
     sym (ap (λ (g : Frame). grouped g (memory_of f.objects layers)) (frame_is f [] built none)
     ∙ ap (λ (os : List ObjectRec). grouped (whole os f.opens) (memory_of os layers)) objects
-    ∙ ap (λ (ds : List Open). grouped (whole [] ds) []) (no_opens f valid none))
+    ∙ ap (λ (ds : List Open). grouped (whole [] ds) []) (no_opens f valid built none))

@@ -14,7 +14,7 @@ use Rattle.group_defs.specs.declared.frame.ObjectRec.{ObjectRec}
 use Rattle.group_kernel.specs.Placing.{page_slice, is_zero, is_nonzero_page, page_with, pages_up_to, object_pages, memory_pages}
 use Rattle.ckpt_records.specs.Pages.{ArePagesOf, written_page}
 use Rattle.ckpt_records.specs.declared.meta.Page.{Page}
-use Rattle.ckpt_records.proofs.Ordered.{IsOrdered, each_weaker, each_append, each_map, each_filter, each_in_range, ordered_of_pairs}
+use Rattle.tables.proofs.Ordered.{IsOrdered, each_weaker, each_append, each_map, each_filter, each_in_range, ordered_of_pairs}
 
 -- ---- the bytes of an object by its number
 

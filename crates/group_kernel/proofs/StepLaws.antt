@@ -1,7 +1,7 @@
 -- A step of the process that runs.
 use Rattle.std.proofs.Common.{◌≡◌, ℕ, ◌==◌, Bool, true, false, List, [], ◌∷◌, Option, Some, None, refl, ap, ◌∙◌, arith, rules}
 use Rattle.std.specs.Prelude.{if◌then◌else◌, All}
-use Rattle.std.specs.List.{cons_option, filter}
+use Rattle.std.specs.List.{cons_option, filter, find}
 use Rattle.std.proofs.Math.Path.{fun_ext}
 use Rattle.rv64_isa.specs.declared.regs.Regs.{Regs}
 use Rattle.rv64_isa.specs.Instruction.{instruction, is_step}
@@ -14,12 +14,13 @@ use Rattle.descriptors.specs.declared.opens.Open.{Open}
 use Rattle.group_defs.specs.Built.{IsAlone}
 use Rattle.group_defs.specs.Cells.{cell_in, cells_of}
 use Rattle.address_maps.specs.Mappings.{has, mapping_at}
-use Rattle.group_defs.specs.Exit.{ended, with_left}
-use Rattle.group_defs.specs.Group.{Group, runner}
-use Rattle.group_defs.specs.Held.{is_held, is_kept}
+use Rattle.group_defs.specs.Changes.{with_procs}
+use Rattle.group_defs.specs.Family.{ended}
+use Rattle.group_defs.specs.Group.{Group, is_runner, runner}
+use Rattle.group_defs.specs.Held.{is_held, is_kept, settled}
 use Rattle.tables.specs.Lists.{on_first}
 use Rattle.group_defs.specs.Objects.{is_of_file}
-use Rattle.group_defs.specs.Step.{after_effect, continued, do_step, effect_in, is_local, is_local_at}
+use Rattle.group_defs.specs.Step.{after_effect, continued, effect_in, group_step, is_local, is_local_at}
 use Rattle.group_kernel.specs.Engine.{running_process, running_group, ended_group, frame_with, IsRunnable}
 use Rattle.group_kernel.specs.declared.engine_group.Fixed.{Fixed}
 use Rattle.group_kernel.proofs.MemoryReads.{found_has}
@@ -47,9 +48,12 @@ none_by false o e = absurd (cc)
 
 module _ (fixed : Fixed) (maps : List Mapping) (r : Regs) (memory : List (ℕ × List ℕ)) (out : Out) where
   -- it is found by its pid
+  pub found_is : find (is_runner fixed.pid) (running_process fixed maps r ∷ []) ≡ Some (running_process fixed maps r)
+  found_is = some_by (fixed.pid == fixed.pid) (running_process fixed maps r) (itself fixed.pid)
+
   pub runner_is : runner (running_group fixed maps r memory out) fixed.pid ≡ Some (running_process fixed maps r)
   unfolding runner
-  runner_is = some_by (fixed.pid == fixed.pid) (running_process fixed maps r) (itself fixed.pid)
+  runner_is = found_is
 
   -- it goes on with other registers
   pub goes_on : (r' : Regs) → continued (running_group fixed maps r memory out) (running_process fixed maps r) r' ≡ running_group fixed maps r' memory out
@@ -60,9 +64,9 @@ module _ (fixed : Fixed) (maps : List Mapping) (r : Regs) (memory : List (ℕ ×
 
   -- nothing is left but the next numbers and the output
   pub ends_all : (status : ℕ) → ended (running_group fixed maps r memory out) (running_process fixed maps r) status ≡ ended_group fixed.next out
-  unfolding ended is_of_file is_held is_kept
+  unfolding ended settled is_of_file is_held is_kept
   ends_all status =
-      ap (with_left (running_group fixed maps r memory out)) (none_by (fixed.pid == fixed.pid) _ (itself fixed.pid))
+      ap (λ (l : List Proc). settled (with_procs (running_group fixed maps r memory out) l)) (none_by (fixed.pid == fixed.pid) _ (itself fixed.pid))
       ∙ ap (λ (l : List ObjectRec). left l (filter (λ o. false) fixed.opens) (filter (λ o. false) memory)) (none_kept fixed.objects)
       ∙ ap (λ (l : List Open). left [] l (filter (λ o. false) memory)) (none_kept fixed.opens)
       ∙ ap (λ (l : List (ℕ × List ℕ)). left [] [] l) (none_kept memory)
@@ -71,12 +75,12 @@ module _ (fixed : Fixed) (maps : List Mapping) (r : Regs) (memory : List (ℕ ×
       left objects opens bytes = record { frame = frame_with [] objects opens fixed.next out; memory = bytes }
 
   -- the next step
-  pub step_is : do_step (running_group fixed maps r memory out) fixed.pid ≡ after_effect (running_group fixed maps r memory out) (running_process fixed maps r) (instruction (cells_of memory maps) r)
-  unfolding do_step
+  pub step_is : group_step true (running_group fixed maps r memory out) fixed.pid ≡ after_effect true (running_group fixed maps r memory out) (running_process fixed maps r) (instruction (cells_of memory maps) r)
+  unfolding group_step
   step_is = ap stepped runner_is
     where
       stepped : Option Proc → Group
-      stepped o = elim o [ None ↦ running_group fixed maps r memory out | Some p ↦ after_effect (running_group fixed maps r memory out) p (effect_in (running_group fixed maps r memory out) p) ]
+      stepped o = elim o [ None ↦ running_group fixed maps r memory out | Some p ↦ after_effect true (running_group fixed maps r memory out) p (effect_in (running_group fixed maps r memory out) p) ]
 
 -- the same for a group that is that of these parts
 pub continues : (h : Group) (fixed : Fixed) (maps : List Mapping) (r : Regs) (memory : List (ℕ × List ℕ)) (out : Out) → h ≡ running_group fixed maps r memory out → (r' : Regs)

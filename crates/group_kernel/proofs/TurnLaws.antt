@@ -6,7 +6,7 @@ use Rattle.group_defs.specs.declared.frame.Out.{Out}
 use Rattle.address_maps.specs.declared.maps.Mapping.{Mapping}
 use Rattle.group_defs.specs.Group.{Group}
 use Rattle.group_defs.specs.Output.{last_position}
-use Rattle.group_defs.specs.Step.{do_step, is_local}
+use Rattle.group_defs.specs.Step.{group_step, is_local}
 use Rattle.run_defs.specs.Turns.{steps_of, AllLocal, IsTurn, turned}
 use Rattle.group_defs.specs.Valid.{OutValid}
 use Rattle.group_kernel.specs.Engine.{running_group, ended_group, IsRunnable}
@@ -48,23 +48,23 @@ unfolding steps_of AllLocal
 went_none pid start = record { group = refl; all_local = tt }
 
 -- one more local step
-went_suc : (pid : ℕ) (start h k : Group) (n : ℕ) → Went pid start n h → is_local h pid ≡ true → k ≡ do_step h pid → Went pid start (suc n) k
+went_suc : (pid : ℕ) (start h k : Group) (n : ℕ) → Went pid start n h → is_local h pid ≡ true → k ≡ group_step true h pid → Went pid start (suc n) k
 unfolding steps_of AllLocal
 went_suc pid start h k n went local step = record {
-  group = step ∙ ap (λ (x : Group). do_step x pid) went.group;
+  group = step ∙ ap (λ (x : Group). group_step true x pid) went.group;
   all_local = (went.all_local, subst (λ (x : Group). is_local x pid ≡ true) went.group local);
 }
 
 -- what was tried: one more local step where the next step is local, else nothing
-pub went_on : (pid : ℕ) (start h k : Group) (n : ℕ) (t : Bool) → t ≡ true → Went pid start n h → is_local h pid ≡ t → k ≡ (if t then do_step h pid else h) → Went pid start (n + 1) k
+pub went_on : (pid : ℕ) (start h k : Group) (n : ℕ) (t : Bool) → t ≡ true → Went pid start n h → is_local h pid ≡ t → k ≡ (if t then group_step true h pid else h) → Went pid start (n + 1) k
 went_on pid start h k n true e went local step = subst (λ (m : ℕ). Went pid start m k) (sym (add-one n)) (went_suc pid start h k n went local step)
 went_on pid start h k n false e went local step = absurd (cc)
 
-pub went_no_further : (pid : ℕ) (start h k : Group) (n : ℕ) (t : Bool) → t ≡ false → Went pid start n h → k ≡ (if t then do_step h pid else h) → Went pid start n k
+pub went_no_further : (pid : ℕ) (start h k : Group) (n : ℕ) (t : Bool) → t ≡ false → Went pid start n h → k ≡ (if t then group_step true h pid else h) → Went pid start n k
 went_no_further pid start h k n true e went step = absurd (cc)
 went_no_further pid start h k n false e went step = record { group = step ∙ went.group; all_local = went.all_local }
 
-pub stands_still : (pid : ℕ) (h k : Group) (t : Bool) → t ≡ false → is_local h pid ≡ t → k ≡ (if t then do_step h pid else h) → is_local k pid ≡ false
+pub stands_still : (pid : ℕ) (h k : Group) (t : Bool) → t ≡ false → is_local h pid ≡ t → k ≡ (if t then group_step true h pid else h) → is_local k pid ≡ false
 stands_still pid h k true e local step = absurd (cc)
 stands_still pid h k false e local step = ap (λ (x : Group). is_local x pid) step ∙ local
 
@@ -80,15 +80,15 @@ pub way_begins : (fixed : Fixed) (start : Group) (out : Out) (runs : Bool) → I
 way_begins fixed start out runs running valid = record { went = went_none fixed.pid start; running = running; runnable = valid; same_out = refl; same_fixed = refl }
 
 module _ (fixed fixed' fixed'' : Fixed) (start h k : Group) (before out after : Out) (n : ℕ) (runs runs' t : Bool) (way : OnTheWay fixed start before n runs fixed' out h)
-    (local : is_local h fixed'.pid ≡ t) (step : k ≡ (if t then do_step h fixed'.pid else h)) (running : IsTrue runs') (valid : IsRunnable k) (same_out : after ≡ out) (same_fixed : fixed'' ≡ fixed') where
+    (local : is_local h fixed'.pid ≡ t) (step : k ≡ (if t then group_step true h fixed'.pid else h)) (running : IsTrue runs') (valid : IsRunnable k) (same_out : after ≡ out) (same_fixed : fixed'' ≡ fixed') where
   pid_is : fixed'.pid ≡ fixed.pid
   pid_is = ap (λ (x : Fixed). x.pid) way.same_fixed
 
   local_there : is_local h fixed.pid ≡ t
   local_there = subst (λ (pid : ℕ). is_local h pid ≡ t) pid_is local
 
-  step_there : k ≡ (if t then do_step h fixed.pid else h)
-  step_there = subst (λ (pid : ℕ). k ≡ (if t then do_step h pid else h)) pid_is step
+  step_there : k ≡ (if t then group_step true h fixed.pid else h)
+  step_there = subst (λ (pid : ℕ). k ≡ (if t then group_step true h pid else h)) pid_is step
 
   -- the step was local
   pub way_on : t ≡ true → OnTheWay fixed start before (n + 1) runs' fixed'' after k
@@ -107,8 +107,8 @@ module _ (fixed fixed' fixed'' : Fixed) (start h k : Group) (before out after : 
 pub turned_whole : (quantum pid n : ℕ) (g h : Group) → n ≡ quantum → h ≡ steps_of g pid n → h ≡ turned quantum g pid n
 turned_whole quantum pid n g h whole is = let e : (n == quantum) ≡ true = grind (arith, whole) in rw e is
 
-pub turned_short : (quantum pid n : ℕ) (g h k : Group) → n < quantum → h ≡ steps_of g pid n → k ≡ do_step h pid → k ≡ turned quantum g pid n
-turned_short quantum pid n g h k short is step = let e : (n == quantum) ≡ false = grind (arith, short) in rw e (step ∙ ap (λ (x : Group). do_step x pid) is)
+pub turned_short : (quantum pid n : ℕ) (g h k : Group) → n < quantum → h ≡ steps_of g pid n → k ≡ group_step true h pid → k ≡ turned quantum g pid n
+turned_short quantum pid n g h k short is step = let e : (n == quantum) ≡ false = grind (arith, short) in rw e (step ∙ ap (λ (x : Group). group_step true x pid) is)
 
 pub is_a_turn : (quantum pid n : ℕ) (g h : Group) → n ≤ quantum → AllLocal g pid n → h ≡ steps_of g pid n → (n < quantum → is_local h pid ≡ false) → IsTurn quantum g pid n
 is_a_turn quantum pid n g h within all_local is stops = record {
@@ -119,8 +119,8 @@ is_a_turn quantum pid n g h within all_local is stops = record {
 
 -- the step behind the local ones leaves a valid group, whose output grew
 pub turn_follows : (pid : ℕ) (fixed : Fixed) (running : Bool) (maps : List Mapping) (r : Regs) (memory : List (ℕ × List ℕ)) (out : Out) (h k : Group) → pid ≡ fixed.pid → IsTrue running
-    → h ≡ (if running then running_group fixed maps r memory out else ended_group fixed.next out) → IsRunnable h → is_local h pid ≡ false → last_position out + 1048576 < 2 ^ 63 → k ≡ do_step h pid → Follows out k
+    → h ≡ (if running then running_group fixed maps r memory out else ended_group fixed.next out) → IsRunnable h → is_local h pid ≡ false → last_position out + 1048576 < 2 ^ 63 → k ≡ group_step true h pid → Follows out k
 turn_follows pid fixed running maps r memory out h k same runs is valid other room_left step =
     let here = is ∙ running_is running fixed maps r memory out runs in
     let stands : is_local h fixed.pid ≡ false = subst (λ (n : ℕ). is_local h n ≡ false) same other in
-    subst (Follows out) (sym (step ∙ ap (do_step h) same)) (other_follows fixed maps r memory out (subst IsRunnable here valid) room_left h here stands)
+    subst (Follows out) (sym (step ∙ ap (group_step true h) same)) (other_follows fixed maps r memory out (subst IsRunnable here valid) room_left h here stands)

@@ -3,5 +3,4 @@ pub mod Engine
 pub mod Memory
 -- What only private functions say.
 pub mod Descriptors
-pub mod Registers
 pub mod Placing

@@ -1,15 +1,15 @@
 //! The system calls of the process.
-ghost use Rattle.std.specs.Prelude.{◌≡◌, ◌≤◌, ◌-◌, ◌^◌, ◌==◌, ◌&&◌, ◌↔◌, false, IsTrue, OnOk};
+ghost use Rattle.std.specs.Prelude.{◌≡◌, ◌≤◌, ◌-◌, ◌^◌, ◌==◌, ◌&&◌, ◌↔◌, true, false, IsTrue, OnOk};
 ghost use Rattle.std.specs.List.{find};
 ghost use Rattle.std.specs.Option.{option_map};
 ghost use Rattle.rv64_isa.specs.Instruction.{instruction, calls};
 ghost use Rattle.rv64_isa.specs.Memory.{readable};
 ghost use Rattle.rv64_isa.specs.Numbers.{low_word};
 ghost use Rattle.rv64_isa.specs.Registers.{a0, a1, a2, answered, call_number};
-ghost use Rattle.group_defs.specs.Calls.{reply_map};
+ghost use Rattle.group_defs.specs.Changes.{open_at};
 ghost use Rattle.group_defs.specs.Output.{room};
-ghost use Rattle.group_defs.specs.Step.{after_reply, continued, do_step, is_local, is_wait, is_waiting as waits, reply_to, with_out};
-ghost use Rattle.group_defs.specs.Write.{open_at, put_outside, write_outside};
+ghost use Rattle.group_defs.specs.ReadWrite.{put_outside, write_outside};
+ghost use Rattle.group_defs.specs.Step.{after_reply, continued, group_step, group_waits, is_local, is_wait, reply_to};
 ghost use Rattle.descriptors.specs.Descriptors.{number_at};
 ghost use Rattle.group_kernel.specs.Descriptors.{is_at_outside};
 ghost use Rattle.group_kernel.specs.Engine.{cells_in, ended_group, group_in, process_in, IsRunnable};
@@ -75,7 +75,7 @@ fn writes_outside(fixed: &Fixed, regs: &Regs) -> bool
 fn must_wait(g: &EngineGroup) -> bool
     requires running { IsTrue g.now.running }
     requires runnable { IsRunnable (group_in g.now) }
-    ensures { result ≡ is_wait (reply_to (group_in g.now) (process_in g.now)) }
+    ensures { result ≡ is_wait (reply_to true (group_in g.now) (process_in g.now)) }
 {
     writes_outside(&g.fixed, &g.regs) && g.regs.get(12) != 0 && g.room() == 0
 }
@@ -83,7 +83,7 @@ fn must_wait(g: &EngineGroup) -> bool
 /// Whether the process runs, and stands at a system call that must wait.
 pub fn is_waiting(g: &EngineGroup) -> bool
     requires { IsRunnable (group_in g.now) }
-    ensures { result ≡ waits (group_in g.now) g.now.fixed.pid }
+    ensures { result ≡ group_waits true (group_in g.now) g.now.fixed.pid }
 {
     g.running && is_at_call(g) && must_wait(g)
 }
@@ -122,8 +122,7 @@ fn put(g: &mut EngineGroup, n: u64) -> Result<(), NoMemory>
     requires running { IsTrue g.old.running }
     ensures ok { OnOk result (group_in g.new
         ≡ after_reply (group_in g.old) (process_in g.old)
-        (reply_map (with_out (group_in g.old))
-        (put_outside g.old.out (readable (cells_in g.old) (a1 g.old.regs) n)))) }
+        (put_outside (group_in g.old) (readable (cells_in g.old) (a1 g.old.regs) n))) }
     ensures fixed { OnOk result (g.new.fixed ≡ g.old.fixed) }
 {
     let address = g.regs.get(11);
@@ -141,8 +140,7 @@ fn write(g: &mut EngineGroup) -> Result<(), NoMemory>
     requires runnable { IsRunnable (group_in g.old) }
     ensures ok { OnOk result (group_in g.new
         ≡ after_reply (group_in g.old) (process_in g.old)
-        (reply_map (with_out (group_in g.old))
-        (write_outside g.old.out (cells_in g.old) (a1 g.old.regs) (a2 g.old.regs)))) }
+        (write_outside (group_in g.old) (cells_in g.old) (a1 g.old.regs) (a2 g.old.regs))) }
     ensures fixed { OnOk result (g.new.fixed ≡ g.old.fixed) }
 {
     let wanted = g.regs.get(12);
@@ -163,7 +161,7 @@ fn call(g: &mut EngineGroup) -> Result<(), NoMemory>
     requires runnable { IsRunnable (group_in g.old) }
     ensures ok { OnOk result (group_in g.new
         ≡ after_reply (group_in g.old) (process_in g.old)
-        (reply_to (group_in g.old) (process_in g.old))) }
+        (reply_to true (group_in g.old) (process_in g.old))) }
     ensures fixed { OnOk result (g.new.fixed ≡ g.old.fixed) }
 {
     match g.regs.get(17) {
@@ -184,7 +182,7 @@ pub fn other_step(g: &mut EngineGroup) -> Result<(), NoMemory>
     requires running { IsTrue g.old.running }
     requires runnable { IsRunnable (group_in g.old) }
     requires other { is_local (group_in g.old) g.old.fixed.pid ≡ false }
-    ensures ok { OnOk result (group_in g.new ≡ do_step (group_in g.old) g.old.fixed.pid) }
+    ensures ok { OnOk result (group_in g.new ≡ group_step true (group_in g.old) g.old.fixed.pid) }
     ensures fixed { OnOk result (g.new.fixed ≡ g.old.fixed) }
 {
     if is_at_call(g) {

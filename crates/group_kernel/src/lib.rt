@@ -12,8 +12,6 @@ pub mod laws;
 mod loading;
 mod mapped_byte;
 mod process_memory;
-#[cfg(test)]
-mod tests;
 mod turns;
 
 pub use engine_group::{EngineGroup, Fixed};

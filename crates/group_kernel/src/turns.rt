@@ -1,39 +1,15 @@
 //! Turns of the process.
-ghost use Rattle.std.specs.Prelude.{All, ◌≡◌, ◌≤◌, ◌<◌, ◌+◌, ◌^◌, length, false, if◌then◌else◌, [], ◌∷◌, IfOk, OnOk, IsTrue};
+ghost use Rattle.std.specs.Prelude.{◌≡◌, ◌≤◌, ◌<◌, ◌+◌, ◌^◌, true, false, if◌then◌else◌, [], ◌∷◌, IfOk, OnOk, IsTrue};
 ghost use Rattle.run_defs.specs.Legal.{ready};
 ghost use Rattle.group_defs.specs.Output.{last_position};
-ghost use Rattle.group_defs.specs.Step.{do_step, is_local, is_waiting as waits};
+ghost use Rattle.group_defs.specs.Step.{group_step, group_waits, is_local};
 ghost use Rattle.run_defs.specs.Turns.{steps_of, AllLocal, IsTurn, turned};
 ghost use Rattle.group_kernel.specs.Engine.{group_in, IsRunnable};
-ghost use Rattle.group_kernel.specs.Registers.{AreRegisters};
 
 use crate::calls::{is_waiting, other_step};
 use crate::engine_group::EngineGroup;
 use lists::NoMemory;
-use rv64_core::{Local, Regs, local_step};
-
-// What their types say of registers, for contracts alone.
-fn numbers_fit(_numbers: &[u64])
-    ensures { All (λ n. n < 2 ^ 64) _numbers.now }
-{}
-
-fn array_fits(x: &[u64; 31])
-    ensures count { length x.now ≡ 31 }
-    ensures numbers { All (λ n. n < 2 ^ 64) x.now }
-{
-    numbers_fit(x);
-}
-
-fn number_fits(_number: u64)
-    ensures { _number < 2 ^ 64 }
-{}
-
-fn registers_fit(regs: &Regs)
-    ensures { AreRegisters regs.now }
-{
-    number_fits(regs.pc);
-    array_fits(&regs.x);
-}
+use rv64_core::{Local, local_step};
 
 /// One step of the process where that is local: whether it was made.
 fn step_if_local(g: &mut EngineGroup) -> Result<bool, NoMemory>
@@ -41,17 +17,14 @@ fn step_if_local(g: &mut EngineGroup) -> Result<bool, NoMemory>
     requires runnable { IsRunnable (group_in g.old) }
     ensures local { IfOk result (λ stepped. is_local (group_in g.old) g.old.fixed.pid ≡ stepped) }
     ensures group { IfOk result (λ stepped. group_in g.new
-        ≡ (if stepped then do_step (group_in g.old) g.old.fixed.pid else group_in g.old)) }
+        ≡ (if stepped then group_step true (group_in g.old) g.old.fixed.pid else group_in g.old)) }
     ensures running { OnOk result (IsTrue g.new.running) }
     ensures runnable { OnOk result (IsRunnable (group_in g.new)) }
     ensures out { OnOk result (g.new.out ≡ g.old.out) }
     ensures fixed { OnOk result (g.new.fixed ≡ g.old.fixed) }
 {
     match local_step(&mut g.regs, &mut g.memory) {
-        Local::Stepped => {
-            registers_fit(&g.regs);
-            Ok(true)
-        }
+        Local::Stepped => Ok(true),
         Local::Shared => Ok(false),
         Local::NoMemory => Err(NoMemory),
     }
@@ -106,7 +79,7 @@ pub fn is_ready(g: &EngineGroup) -> bool
     requires { IsRunnable (group_in g.now) }
     ensures ready { ready (group_in g.now) ≡ (if result then g.now.fixed.pid ∷ [] else []) }
     ensures running { IsTrue result → IsTrue g.now.running }
-    ensures acts { IsTrue result → waits (group_in g.now) g.now.fixed.pid ≡ false }
+    ensures acts { IsTrue result → group_waits true (group_in g.now) g.now.fixed.pid ≡ false }
 {
     g.running && !is_waiting(g)
 }

@@ -1,12 +1,12 @@
 -- A run on one thread comes from one rest to the next by a turn, or by a barrier with its fetch and its acknowledgement.
-use Rattle.std.proofs.Common.{◌≡◌, ◌⊎◌, inl, inr, ℕ, ◌+◌, ◌<◌, ◌≤◌, ◌==◌, ◌&&◌, ◌||◌, not, Bool, true, false, List, [], ◌∷◌, ◌++◌, length, map, Option, Some, None, refl, sym, ap, subst, ◌∙◌, arith, append_assoc, append-nil, rules}
+use Rattle.std.proofs.Common.{◌≡◌, ◌⊎◌, inl, inr, ℕ, ◌+◌, ◌<◌, ◌==◌, ◌&&◌, ◌||◌, not, Bool, true, false, List, [], ◌∷◌, ◌++◌, length, map, Option, Some, None, refl, sym, ap, subst, ◌∙◌, arith, append_assoc, append-nil, rules}
 use Rattle.std.specs.Prelude.{if◌then◌else◌, nat_lt}
 use Rattle.std.specs.List.{AllByRecursion, count_by, filter, find, last_or, list_all, list_any}
 use Rattle.std.proofs.lemmas.List.Folds.{list_any-append}
 use Rattle.std.proofs.lemmas.List.Sums.{fold-append, sum_by-append}
 use Rattle.group_defs.specs.declared.frame.Proc.{Proc}
 use Rattle.group_defs.specs.Group.{Group, is_running}
-use Rattle.group_defs.specs.Step.{is_waiting}
+use Rattle.group_defs.specs.Step.{group_waits}
 use Rattle.run_defs.specs.declared.run.Limits.{Limits}
 use Rattle.run_defs.specs.declared.run.Mark.{Mark}
 use Rattle.run_defs.specs.declared.run.Mark.TheVariants.{Take, Turn, Barrier, Fetch, Ack}
@@ -24,7 +24,7 @@ pub last_at : (o : Option Mark) (ms : List Mark) (m : Mark) → last_or o (ms ++
 last_at o [] m = refl
 last_at o (x ∷ ms) m = last_at (Some x) ms m
 
-counted : (p : Mark → Bool) (ms : List Mark) (m : Mark) (n : ℕ) → (let k : ℕ = if p m then 1 else 0 in k) ≡ n → count_by p (ms ++ m ∷ []) ≡ count_by p ms + n
+pub counted : (p : Mark → Bool) (ms : List Mark) (m : Mark) (n : ℕ) → (let k : ℕ = if p m then 1 else 0 in k) ≡ n → count_by p (ms ++ m ∷ []) ≡ count_by p ms + n
 counted p ms m n e = sum_by-append (λ x. if p x then 1 else 0) ms (m ∷ []) ∙ omega (arith, e)
 
 abbrev since_after : List Mark → Mark → List Mark
@@ -40,7 +40,7 @@ pub group_more : (quantum : ℕ) (g : Group) (ms : List Mark) (m : Mark) → gro
 unfolding group_after
 group_more quantum g ms m = group_after-append quantum g ms (m ∷ [])
 
-turns_same : (ms : List Mark) (m : Mark) → is_turn m ≡ false → turns_in (ms ++ m ∷ []) ≡ turns_in ms
+pub turns_same : (ms : List Mark) (m : Mark) → is_turn m ≡ false → turns_in (ms ++ m ∷ []) ≡ turns_in ms
 turns_same ms m no_turn = counted is_turn ms m 0 (ap (λ (t : Bool). let k : ℕ = if t then 1 else 0 in k) no_turn) ∙ omega arith
 
 since_same : (ms : List Mark) (m : Mark) → is_barrier m ≡ false → is_turn m ≡ false → turns_in (since_barrier (ms ++ m ∷ [])) ≡ turns_in (since_barrier ms)
@@ -118,28 +118,28 @@ each_next P last (x ∷ xs) y all e = by_found (find (nat_lt last) (x ∷ xs)) r
     by_found None is e = let same : x ≡ y = cc in subst P same all.0
 
 Acts : Group → ℕ → Type 0
-Acts g pid = is_waiting g pid ≡ false
+Acts g pid = group_waits true g pid ≡ false
 
-all_act : (g : Group) (ps : List Proc) → AllByRecursion (Acts g) (map (λ (p : Proc). p.pid) (filter (λ p. is_running p && not (is_waiting g p.pid)) ps))
+all_act : (g : Group) (ps : List Proc) → AllByRecursion (Acts g) (map (λ (p : Proc). p.pid) (filter (λ p. is_running p && not (group_waits true g p.pid)) ps))
 unfolding Acts
 all_act g [] = tt
-all_act g (p ∷ ps) = by_test (is_running p) (is_waiting g p.pid) refl (all_act g ps)
+all_act g (p ∷ ps) = by_test (is_running p) (group_waits true g p.pid) refl (all_act g ps)
   where
-    by_test : (b w : Bool) → is_waiting g p.pid ≡ w → AllByRecursion (Acts g) (map (λ (p : Proc). p.pid) (filter (λ p. is_running p && not (is_waiting g p.pid)) ps)) → AllByRecursion (Acts g) (map (λ (p : Proc). p.pid) (if b && not w then p ∷ filter (λ p. is_running p && not (is_waiting g p.pid)) ps else filter (λ p. is_running p && not (is_waiting g p.pid)) ps))
+    by_test : (b w : Bool) → group_waits true g p.pid ≡ w → AllByRecursion (Acts g) (map (λ (p : Proc). p.pid) (filter (λ p. is_running p && not (group_waits true g p.pid)) ps)) → AllByRecursion (Acts g) (map (λ (p : Proc). p.pid) (if b && not w then p ∷ filter (λ p. is_running p && not (group_waits true g p.pid)) ps else filter (λ p. is_running p && not (group_waits true g p.pid)) ps))
     by_test true true e rest = rest
     by_test true false e rest = (e, rest)
     by_test false w e rest = rest
 
 -- a process whose turn is next doesn't wait
-next_acts : (g : Group) (last pid : ℕ) → next_pid last (ready g) ≡ Some pid → is_waiting g pid ≡ false
+next_acts : (g : Group) (last pid : ℕ) → next_pid last (ready g) ≡ Some pid → group_waits true g pid ≡ false
 unfolding ready Acts
 next_acts g last pid next = each_next (Acts g) last _ pid (all_act g g.frame.procs) next
 
-none_ready : (g : Group) (ps : List Proc) → list_any is_running ps ≡ false → filter (λ p. is_running p && not (is_waiting g p.pid)) ps ≡ []
+none_ready : (g : Group) (ps : List Proc) → list_any is_running ps ≡ false → filter (λ p. is_running p && not (group_waits true g p.pid)) ps ≡ []
 none_ready g [] none = refl
 none_ready g (p ∷ ps) none = by_test (is_running p) none (none_ready g ps)
   where
-    by_test : (b : Bool) → (b || list_any is_running ps) ≡ false → (list_any is_running ps ≡ false → filter (λ p. is_running p && not (is_waiting g p.pid)) ps ≡ []) → (if b && not (is_waiting g p.pid) then p ∷ filter (λ p. is_running p && not (is_waiting g p.pid)) ps else filter (λ p. is_running p && not (is_waiting g p.pid)) ps) ≡ []
+    by_test : (b : Bool) → (b || list_any is_running ps) ≡ false → (list_any is_running ps ≡ false → filter (λ p. is_running p && not (group_waits true g p.pid)) ps ≡ []) → (if b && not (group_waits true g p.pid) then p ∷ filter (λ p. is_running p && not (group_waits true g p.pid)) ps else filter (λ p. is_running p && not (group_waits true g p.pid)) ps) ≡ []
     by_test true e rest = absurd (cc)
     by_test false e rest = rest e
 

@@ -1,10 +1,13 @@
 pub mod AtRest
 pub mod Epochs
+pub mod FileBytes
 pub mod MovedLaws
 pub mod OutputLaws
 pub mod OutputParts
 pub mod PageLaws
+pub mod RunLaws
 pub mod Runs
 pub mod SoloLaws
 pub mod TraceLaws
 pub mod WholeTraces
+pub mod WriteReplies

@@ -1,30 +1,26 @@
 -- A group's output: steps append to it, barriers drop its beginning, and what a group holds is the end of all output.
-use Rattle.std.proofs.Common.{◌≡◌, ℕ, zero, suc, ◌+◌, ◌-◌, ◌≤◌, ◌==◌, ◌||◌, Bool, true, false, List, [], ◌∷◌, ◌++◌, length, drop, Option, Some, None, refl, ap, sym, ◌∙◌, subst, arith, append_assoc, append-nil, length-append, length-drop, drop-drop}
+use Rattle.std.proofs.Common.{◌≡◌, ℕ, zero, suc, ◌+◌, ◌-◌, ◌≤◌, ◌==◌, Bool, true, false, List, [], ◌∷◌, ◌++◌, length, drop, Option, Some, None, refl, ap, sym, ◌∙◌, subst, arith, append_assoc, append-nil, length-append, length-drop, drop-drop}
 use Rattle.std.proofs.lemmas.List.{drop-append-le}
 use Rattle.std.proofs.Math.Seq.{drop-append_seam}
-use Rattle.std.specs.Prelude.{if◌then◌else◌, min}
-use Rattle.rv64_isa.specs.declared.regs.Regs.{Regs}
+use Rattle.std.specs.Prelude.{if◌then◌else◌}
 use Rattle.rv64_isa.specs.Instruction.{Effect, steps, calls, traps}
-use Rattle.rv64_isa.specs.Memory.{Cells, readable}
-use Rattle.rv64_isa.specs.Numbers.{low_word}
-use Rattle.rv64_isa.specs.Registers.{a0, a1, a2, call_number}
+use Rattle.rv64_isa.specs.Registers.{call_number}
 use Rattle.group_defs.specs.declared.frame.Out.{Out}
 use Rattle.group_defs.specs.declared.frame.Proc.{Proc}
-use Rattle.descriptors.specs.declared.opens.Open.{Open}
-use Rattle.descriptors.specs.declared.opens.OpenKind.{OpenKind}
-use Rattle.descriptors.specs.declared.opens.OpenKind.TheVariants.{Nothing, Outside, File, PipeRead, PipeWrite, PairEnd}
 use Rattle.run_defs.specs.declared.run.Mark.{Mark}
 use Rattle.run_defs.specs.declared.run.Mark.TheVariants.{Take, Turn, Barrier, Fetch, Ack}
-use Rattle.group_defs.specs.Calls.{Reply, waits, refuses, answers, ends, reply_map}
-use Rattle.group_defs.specs.declared.calls.TheConstants.{ENOSYS}
+use Rattle.group_defs.specs.Calls.{Reply, waits, refuses, answers, ends}
 use Rattle.group_defs.specs.Cells.{sight}
-use Rattle.group_defs.specs.Exit.{exit, ended}
+use Rattle.group_defs.specs.Family.{ended}
 use Rattle.group_defs.specs.Group.{Group, runner, regs_of}
-use Rattle.group_defs.specs.Step.{with_out, effect_in, reply_in, after_reply, after_effect, do_step}
+use Rattle.group_defs.specs.Held.{settled}
+use Rattle.group_defs.specs.ReadWrite.{write}
+use Rattle.group_defs.specs.Step.{after_effect, after_reply, effect_in, group_step, reply_in}
 use Rattle.group_defs.specs.Output.{last_position, room, with_output, out_after_barrier}
 use Rattle.run_defs.specs.Trace.{after_mark, group_after, appended, all_appended, output}
 use Rattle.run_defs.specs.Turns.{steps_of, turned}
-use Rattle.group_defs.specs.Write.{put_outside, write_outside, write_kind, write_to, write, open_at}
+use Rattle.group_laws.proofs.ServedLaws.{served_reply}
+use Rattle.run_defs.proofs.WriteReplies.{write_reply}
 
 -- the second is the first with bytes appended
 abbrev Grows : Out → Out → Type 0
@@ -37,68 +33,41 @@ then_grows : (a b c : Out) → Grows a b → Grows b c → Grows a c
 then_grows a b c (more, e) (next, f) = (more ++ next, f ∙ ap (λ o. with_output o next) e ∙ ap (λ bs. record a { bytes = bs }) (append_assoc a.bytes more next))
 
 -- what a reply leaves of the output
-abbrev ReplyGrows : Out → Reply Out → Type 0
+unfoldable ReplyGrows : Out → Reply Group → Type 0
 ReplyGrows out waits = Unit {0}
 ReplyGrows out (refuses errno) = Unit {0}
-ReplyGrows out (answers value after writes) = Grows out after
+ReplyGrows out (answers value h writes) = Grows out h.frame.out
 ReplyGrows out (ends status) = Unit {0}
 
-either : (out : Out) (t : Bool) (a b : Reply Out) → ReplyGrows out a → ReplyGrows out b → ReplyGrows out (if t then a else b)
-either out true a b x y = x
-either out false a b x y = y
+write_grows : (g : Group) (p : Proc) → ReplyGrows g.frame.out (write g p (sight g p) (regs_of p))
+unfolding ReplyGrows
+write_grows g p =
+    write_reply (ReplyGrows g.frame.out) g (sight g p) tt (λ errno. tt) (stays g.frame.out) (λ bytes. (bytes, refl)) (λ value pipes. stays g.frame.out) (λ value pairs. stays g.frame.out) p (regs_of p)
+    (λ o at object is bytes within. stays g.frame.out)
 
-put_grows : (out : Out) (o : Option (List ℕ)) → ReplyGrows out (put_outside out o)
-put_grows out None = tt
-put_grows out (Some bytes) = (bytes, refl)
-
-outside_grows : (out : Out) (cells : Cells) (buf n : ℕ) → ReplyGrows out (write_outside out cells buf n)
-outside_grows out cells buf n = either out (n == 0) _ _ (stays out) (either out (room out == 0) _ _ tt (put_grows out (readable cells buf (min n (room out)))))
-
-kind_grows : (out : Out) (cells : Cells) (buf n : ℕ) (kind : OpenKind) → ReplyGrows out (write_kind out cells buf n kind)
-kind_grows out cells buf n Nothing = tt
-kind_grows out cells buf n Outside = outside_grows out cells buf n
-kind_grows out cells buf n (File object) = tt
-kind_grows out cells buf n (PipeRead pipe) = tt
-kind_grows out cells buf n (PipeWrite pipe) = tt
-kind_grows out cells buf n (PairEnd pair end) = tt
-
-to_grows : (out : Out) (cells : Cells) (r : Regs) (o : Option Open) → ReplyGrows out (write_to out cells r o)
-to_grows out cells r None = tt
-to_grows out cells r (Some o) = kind_grows out cells (a1 r) (a2 r) o.kind
-
-write_grows : (fds : List (ℕ × ℕ)) (opens : List Open) (out : Out) (cells : Cells) (r : Regs) → ReplyGrows out (write fds opens out cells r)
-unfolding write
-write_grows fds opens out cells r = to_grows out cells r (open_at fds opens (low_word (a0 r)))
-
-replied_out : (g : Group) (p : Proc) (r : Reply Out) → ReplyGrows g.frame.out r → Grows g.frame.out (after_reply g p (reply_map (with_out g) r)).frame.out
-unfolding ended
+replied_out : (g : Group) (p : Proc) (r : Reply Group) → ReplyGrows g.frame.out r → Grows g.frame.out (after_reply g p r).frame.out
+unfolding ReplyGrows ended settled
 replied_out g p waits h = stays g.frame.out
 replied_out g p (refuses errno) h = stays g.frame.out
 replied_out g p (answers value after writes) h = h
 replied_out g p (ends status) h = stays g.frame.out
 
-replied : (g : Group) (p : Proc) (t u : Bool) → Grows g.frame.out (after_reply g p (if t then reply_map (with_out g) (write p.fds g.frame.opens g.frame.out (sight g p) (regs_of p)) else if u then exit (regs_of p) else refuses ENOSYS)).frame.out
-unfolding ended
-replied g p true u = replied_out g p (write p.fds g.frame.opens g.frame.out (sight g p) (regs_of p)) (write_grows p.fds g.frame.opens g.frame.out (sight g p) (regs_of p))
-replied g p false true = stays g.frame.out
-replied g p false false = stays g.frame.out
+called : (g : Group) (p : Proc) (number : ℕ) → Grows g.frame.out (after_reply g p (reply_in true g p number)).frame.out
+unfolding ReplyGrows
+called g p number = replied_out g p (reply_in true g p number) (served_reply (λ n r. ReplyGrows g.frame.out r) true g p (write_grows g p) tt tt (λ n none. tt) number)
 
-called : (g : Group) (p : Proc) (number : ℕ) → Grows g.frame.out (after_reply g p (reply_in g p number)).frame.out
-unfolding reply_in
-called g p number = replied g p (number == 64) ((number == 93) || (number == 94))
-
-effect_grows : (g : Group) (p : Proc) (e : Effect) → Grows g.frame.out (after_effect g p e).frame.out
-unfolding ended
+effect_grows : (g : Group) (p : Proc) (e : Effect) → Grows g.frame.out (after_effect true g p e).frame.out
+unfolding ended settled
 effect_grows g p (steps r write) = stays g.frame.out
 effect_grows g p calls = called g p (call_number (regs_of p))
 effect_grows g p (traps status) = stays g.frame.out
 
-pub step_grows : (g : Group) (pid : ℕ) → Grows g.frame.out (do_step g pid).frame.out
-unfolding do_step
+pub step_grows : (g : Group) (pid : ℕ) → Grows g.frame.out (group_step true g pid).frame.out
+unfolding group_step
 step_grows g pid = found (runner g pid)
   where
     result : Option Proc → Group
-    result o = elim o [ None ↦ g | Some p ↦ after_effect g p (effect_in g p) ]
+    result o = elim o [ None ↦ g | Some p ↦ after_effect true g p (effect_in g p) ]
 
     found : (o : Option Proc) → Grows g.frame.out (result o).frame.out
     found None = stays g.frame.out
@@ -112,7 +81,7 @@ steps_grow g pid (suc n) = then_grows _ _ _ (steps_grow g pid n) (step_grows (st
 pub turn_grows : (quantum : ℕ) (g : Group) (pid n : ℕ) → Grows g.frame.out (turned quantum g pid n).frame.out
 turn_grows quantum g pid n = ended_at (n == quantum)
   where
-    ended_at : (t : Bool) → Grows g.frame.out (if t then steps_of g pid n else do_step (steps_of g pid n) pid).frame.out
+    ended_at : (t : Bool) → Grows g.frame.out (if t then steps_of g pid n else group_step true (steps_of g pid n) pid).frame.out
     ended_at true = steps_grow g pid n
     ended_at false = then_grows _ _ _ (steps_grow g pid n) (step_grows (steps_of g pid n) pid)
 

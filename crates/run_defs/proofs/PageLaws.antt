@@ -1,31 +1,45 @@
 -- A step changes no page but those that it touches.
-use Rattle.std.proofs.Common.{◌≡◌, ◌⊎◌, ℕ, zero, suc, ◌+◌, ◌-◌, ◌*◌, ◌/◌, ◌≤◌, ◌==◌, ◌&&◌, ◌||◌, not, Bool, true, false, List, [], ◌∷◌, ◌++◌, take, drop, Option, Some, None, refl, ap, sym, ◌∙◌, subst, arith, inl, inr, rules}
-use Rattle.std.specs.Prelude.{if◌then◌else◌, slice_set, nat_lt}
-use Rattle.std.specs.List.{find, filter, list_any, list_all}
-use Rattle.std.proofs.lemmas.List.{drop-set-lt, drop-set-add, take-set-le}
+use Rattle.std.proofs.Common.{◌≡◌, ◌⊎◌, ℕ, zero, suc, ◌+◌, ◌-◌, ◌*◌, ◌/◌, ◌≤◌, ◌<◌, ◌==◌, ◌&&◌, ◌||◌, not, Bool, true, false, List, [], ◌∷◌, ◌++◌, length, take, drop, Option, Some, None, refl, ap, sym, ◌∙◌, subst, arith, inl, inr, rules}
+use Rattle.std.specs.Prelude.{if◌then◌else◌, slice_set, nat_lt, map, All}
+use Rattle.std.specs.List.{find, filter, flat_map, list_any, list_all, range_with_len, AllZip}
+use Rattle.std.proofs.lemmas.Bool.{cases_lt, eq-eqb, eqb-true}
+use Rattle.std.proofs.lemmas.List.{drop_all, drop-set-lt, drop-set-add, take-set-le}
+use Rattle.std.proofs.lemmas.List.Elements.{All-filter}
 use Rattle.std.proofs.lemmas.List.Folds.{list_any-append}
+use Rattle.descriptors.specs.declared.opens.Open.{Open}
+use Rattle.descriptors.specs.declared.opens.OpenKind.{OpenKind}
+use Rattle.descriptors.specs.declared.opens.OpenKind.TheVariants as kinds
 use Rattle.rv64_isa.specs.Instruction.{Effect, steps, calls, traps, list_of}
 use Rattle.rv64_isa.specs.Memory.{Write}
 use Rattle.rv64_isa.specs.Numbers.{wrapped}
 use Rattle.rv64_isa.specs.Registers.{call_number}
-use Rattle.group_defs.proofs.Seen.{bytes_same, bytes_other}
-use Rattle.group_defs.specs.declared.frame.Out.{Out}
+use Rattle.group_laws.proofs.Inside.{found_has}
+use Rattle.group_laws.proofs.Lists.{on_first_all}
+use Rattle.group_laws.proofs.OffsetLaws.{open_found}
+use Rattle.group_laws.proofs.SeenLaws.{bytes_same, bytes_other}
+use Rattle.group_laws.proofs.ServedLaws.{served_reply}
+use Rattle.group_defs.specs.declared.frame.ObjectRec.{ObjectRec}
 use Rattle.group_defs.specs.declared.frame.Proc.{Proc}
 use Rattle.address_maps.specs.declared.maps.Mapping.{Mapping}
 use Rattle.run_defs.specs.declared.run.Mark.{Mark}
 use Rattle.run_defs.specs.declared.run.Mark.TheVariants.{Take, Turn, Barrier, Fetch, Ack}
-use Rattle.group_defs.specs.Calls.{Reply, waits, refuses, answers, ends, reply_map, writes_of}
-use Rattle.group_defs.specs.declared.calls.TheConstants.{ENOSYS}
+use Rattle.group_defs.specs.Calls.{Reply, waits, refuses, answers, ends, fd_of}
 use Rattle.group_defs.specs.Cells.{bytes_in, with_byte, with_byte_at, with_stored, with_writes, object_place, sight}
+use Rattle.group_defs.specs.Changes.{open_at, with_offset}
 use Rattle.address_maps.specs.Mappings.{mapping_at}
-use Rattle.group_defs.specs.Exit.{exit, ended}
+use Rattle.group_defs.specs.Family.{ended}
+use Rattle.group_defs.specs.FileCalls.{write_place}
 use Rattle.group_defs.specs.Group.{Group, runner, regs_of}
-use Rattle.group_defs.specs.Step.{with_out, effect_in, reply_in, after_reply, after_effect, do_step, writes_by, writes_in}
-use Rattle.group_defs.specs.Pages.{all_pages, page_bytes, is_zero_page, nonzero_pages, page_at, pages_at, pages_of_writes, touched_by_step, is_among}
-use Rattle.run_defs.specs.Touched.{touched_by_steps, touched_by_turn, touched_after, touched_from, touched_pages}
+use Rattle.group_defs.specs.Held.{settled}
+use Rattle.group_defs.specs.ReadWrite.{write}
+use Rattle.group_defs.specs.Step.{effect_in, reply_in, after_reply, after_effect, group_step}
+use Rattle.group_defs.specs.Pages.{all_pages, page_bytes, is_zero_page, nonzero_pages, page_at, pages_of, pages_at, pages_of_file_write, pages_of_writes, pages_written_to, touched_beside, touched_by_effect, touched_by_reply, touched_with_step, is_among}
+use Rattle.group_defs.specs.Valid.{GroupIsValid, IsObject}
+use Rattle.run_defs.specs.Touched.{touched_with, touched_with_steps, touched_with_turn, touched_after, touched_from, touched_pages}
 use Rattle.run_defs.specs.Trace.{after_mark, group_after, is_barrier, is_barrier_of}
 use Rattle.run_defs.specs.Turns.{steps_of, turned}
-use Rattle.group_defs.specs.Write.{write}
+use Rattle.run_defs.proofs.FileBytes.{FilesHaveBytes, HasFileBytes, KindHasBytes, file_has, file_kept, files_have_bytes, files_weaker, not_between, or_both, writes_have}
+use Rattle.run_defs.proofs.WriteReplies.{with_put, write_reply}
 
 -- a byte stored outside a page leaves it
 set_outside : (bytes : List ℕ) (place b page : ℕ) → (place / 4096 == page) ≡ false → take 4096 (drop (4096 * page) (slice_set bytes place b)) ≡ take 4096 (drop (4096 * page) bytes)
@@ -40,10 +54,6 @@ set_outside bytes place b page other = by_side (nat_lt place (4096 * page)) refl
         let far : 4096 ≤ place - 4096 * page = omega (arith, above, differs) in
         let P : ℕ → Type 0 = λ i. take 4096 (drop (4096 * page) (slice_set bytes i b)) ≡ take 4096 (drop (4096 * page) bytes) in
         subst P (sym split) (ap (take 4096) (drop-set-add (4096 * page) bytes (place - 4096 * page) b) ∙ take-set-le 4096 (drop (4096 * page) bytes) (place - 4096 * page) b far)
-
-or_both : (a b : Bool) → (a || b) ≡ false → (a ≡ false) × (b ≡ false)
-or_both true b e = absurd (cc)
-or_both false b e = (refl, e)
 
 -- a page that isn't among those of two lists is in neither
 apart : (xs ys : List (ℕ × ℕ)) (page : ℕ × ℕ) → is_among (xs ++ ys) page ≡ false → (is_among xs page ≡ false) × (is_among ys page ≡ false)
@@ -113,96 +123,178 @@ none_left zero = refl
 none_left (suc n) = refl
 
 end_stays : (g : Group) (p : Proc) (status : ℕ) (page : ℕ × ℕ) → Stays g.memory (ended g p status).memory page
-unfolding ended
+unfolding ended settled
 end_stays g p status page = by_side (left_or_gone _ g.memory page.0)
   where
     by_side : (bytes_in (ended g p status).memory page.0 ≡ bytes_in g.memory page.0) ⊎ (bytes_in (ended g p status).memory page.0 ≡ []) → Stays g.memory (ended g p status).memory page
     by_side (inl e) = inl (ap (λ (bytes : List ℕ). take 4096 (drop (4096 * page.1) bytes)) e)
     by_side (inr e) = inr (ap (λ (bytes : List ℕ). take 4096 (drop (4096 * page.1) bytes)) e ∙ none_left (4096 * page.1))
 
--- What a reply of write leaves of memory: the parts that it changes are none of it, and it stores nothing.
-reply_stays : (g : Group) (p : Proc) (r : Reply Out) (page : ℕ × ℕ) → is_among (pages_of_writes p.maps (writes_of (reply_map (with_out g) r))) page ≡ false → Stays g.memory (after_reply g p (reply_map (with_out g) r)).memory page
-reply_stays g p waits page e = inl refl
-reply_stays g p (refuses errno) page e = inl refl
-reply_stays g p (answers value out writes) page e = inl (writes_kept g.memory p.maps writes page e)
-reply_stays g p (ends status) page e = end_stays g p status page
+-- What a reply leaves: files have their bytes, and a page that the call doesn't touch stays.
+unfoldable ReplyStays : Group → Proc → List (ℕ × ℕ) → ℕ → Reply Group → Type 0
+ReplyStays g p so_far number waits = Unit {0}
+ReplyStays g p so_far number (refuses errno) = Unit {0}
+ReplyStays g p so_far number (answers value h writes) = FilesHaveBytes h.frame.opens h.memory × ((page : ℕ × ℕ) → is_among (touched_beside g p so_far number value h) page ≡ false → page_bytes h.memory page ≡ page_bytes g.memory page)
+ReplyStays g p so_far number (ends status) = Unit {0}
 
-replied_stays : (g : Group) (p : Proc) (page : ℕ × ℕ) (t u : Bool) → (let r : Reply Group = if t then reply_map (with_out g) (write p.fds g.frame.opens g.frame.out (sight g p) (regs_of p)) else if u then exit (regs_of p) else refuses ENOSYS in is_among (pages_of_writes p.maps (writes_of r)) page ≡ false → Stays g.memory (after_reply g p r).memory page)
-replied_stays g p page true u e = reply_stays g p (write p.fds g.frame.opens g.frame.out (sight g p) (regs_of p)) page e
-replied_stays g p page false true e = end_stays g p _ page
-replied_stays g p page false false e = inl refl
+open_has : (P : Open → Type 0) (fds : List (ℕ × ℕ)) (opens : List Open) (fd : ℕ) (o : Open) → All P opens → open_at fds opens fd ≡ Some o → P o
+open_has P fds opens fd o all e = (found_has P (λ x. x.number == o.number) opens o all (open_found fds opens fd o e)).0
 
-called_stays : (g : Group) (p : Proc) (page : ℕ × ℕ) (number : ℕ) → is_among (pages_of_writes p.maps (writes_of (reply_in g p number))) page ≡ false → Stays g.memory (after_reply g p (reply_in g p number)).memory page
-unfolding reply_in
-called_stays g p page number e = replied_stays g p page (number == 64) ((number == 93) || (number == 94)) e
+module _ (g : Group) (p : Proc) (so_far : List (ℕ × ℕ)) (has : FilesHaveBytes g.frame.opens g.memory) where
+  put_stays : (o : Open) → open_at p.fds g.frame.opens (fd_of (regs_of p)) ≡ Some o → (object : ℕ) → o.kind ≡ kinds.File object → (bytes : List ℕ) → write_place g o object + length bytes ≤ 1048576
+      → ReplyStays g p so_far 64 (answers (length bytes) (with_put g o object (write_place g o object) bytes) [])
+  unfolding ReplyStays touched_beside KindHasBytes
+  put_stays o at object is bytes within =
+      let place = write_place g o object in
+      let its : HasFileBytes object g.memory = (let P : OpenKind → Type 0 = λ k. KindHasBytes g.memory k in subst P is (open_has (λ x. KindHasBytes g.memory x.kind) p.fds g.frame.opens (fd_of (regs_of p)) o has at)) in
+      let moved : FilesHaveBytes (with_offset g.frame.opens o.number (place + length bytes)) g.memory = on_first_all (λ (x : Open). x.number == o.number) (λ x. record x { offset = place + length bytes }) (λ x. KindHasBytes g.memory x.kind) g.frame.opens (λ x found old. old) has in (
+        files_weaker (with_offset g.frame.opens o.number (place + length bytes)) g.memory (with_put g o object place bytes).memory (file_has g.memory object place bytes within its) moved,
+        λ page e.
+            let Of : Option Open → Type 0 = λ x. is_among (pages_written_to g (length bytes) x) page ≡ false in
+            let Kind : OpenKind → Type 0 = λ k. is_among (pages_of_file_write g o (length bytes) k) page ≡ false in
+            file_kept g.memory object place bytes within its page (subst Kind is (subst Of at e)),
+      )
 
-effect_stays : (g : Group) (p : Proc) (page : ℕ × ℕ) (e : Effect) → is_among (pages_of_writes p.maps (writes_by g p e)) page ≡ false → Stays g.memory (after_effect g p e).memory page
-effect_stays g p page (steps r write) e = inl (writes_kept g.memory p.maps (list_of write) page e)
-effect_stays g p page calls e = called_stays g p page (call_number (regs_of p)) e
-effect_stays g p page (traps status) e = end_stays g p status page
+  write_stays : ReplyStays g p so_far 64 (write g p (sight g p) (regs_of p))
+  unfolding ReplyStays
+  write_stays = write_reply (ReplyStays g p so_far 64) g (sight g p) tt (λ errno. tt) (has, λ page e. refl) (λ bytes. (has, λ page e. refl)) (λ value pipes. (has, λ page e. refl)) (λ value pairs. (has, λ page e. refl)) p (regs_of p) put_stays
 
--- a step changes no page that it doesn't touch
-pub step_stays : (g : Group) (pid : ℕ) (page : ℕ × ℕ) → is_among (touched_by_step g pid) page ≡ false → Stays g.memory (do_step g pid).memory page
-unfolding do_step touched_by_step
-step_stays g pid page e = found (runner g pid) e
+  reply_stays : (number : ℕ) → ReplyStays g p so_far number (reply_in true g p number)
+  unfolding ReplyStays
+  reply_stays number = served_reply (λ n r. ReplyStays g p so_far n r) true g p write_stays tt tt (λ n none. tt) number
+
+  ended_has : (status : ℕ) → FilesHaveBytes (ended g p status).frame.opens (ended g p status).memory
+  unfolding ended settled
+  ended_has status =
+      files_weaker (ended g p status).frame.opens g.memory (ended g p status).memory (λ object old. All-filter _ (λ (e : ℕ × List ℕ). e.0 ≡ object → 1048576 ≤ length e.1) g.memory old)
+      (All-filter _ (λ (o : Open). KindHasBytes g.memory o.kind) g.frame.opens has)
+
+  -- the group after a step: files have their bytes, and each page not touched stays
+  abbrev StepStays : List (ℕ × ℕ) → Group → Type 0
+  StepStays touched h = FilesHaveBytes h.frame.opens h.memory × ((page : ℕ × ℕ) → is_among touched page ≡ false → Stays g.memory h.memory page)
+
+  stored_stays : (h : Group) (beside : List (ℕ × ℕ)) (writes : List Write) → FilesHaveBytes h.frame.opens h.memory → ((page : ℕ × ℕ) → is_among beside page ≡ false → page_bytes h.memory page ≡ page_bytes g.memory page)
+      → FilesHaveBytes h.frame.opens (with_writes h.memory p.maps writes) × ((page : ℕ × ℕ) → is_among (pages_of_writes p.maps writes ++ beside) page ≡ false → Stays g.memory (with_writes h.memory p.maps writes) page)
+  stored_stays h beside writes files stay = (
+    files_weaker h.frame.opens h.memory (with_writes h.memory p.maps writes) (writes_have h.memory p.maps writes) files,
+    λ page e. let parts = apart (pages_of_writes p.maps writes) beside page e in inl (writes_kept h.memory p.maps writes page parts.0 ∙ stay page parts.1),
+  )
+
+  by_reply : (number : ℕ) (r : Reply Group) → ReplyStays g p so_far number r → StepStays (touched_by_reply g p so_far number r) (after_reply g p r)
+  unfolding ReplyStays
+  by_reply number waits s = (has, λ page e. inl refl)
+  by_reply number (refuses errno) s = (has, λ page e. inl refl)
+  by_reply number (answers value h writes) s = stored_stays h (touched_beside g p so_far number value h) writes s.0 s.1
+  by_reply number (ends status) s = (ended_has status, λ page e. end_stays g p status page)
+
+  by_effect : (e : Effect) → StepStays (touched_by_effect true g p so_far e) (after_effect true g p e)
+  by_effect (steps r stored) = (
+    files_weaker g.frame.opens g.memory (with_writes g.memory p.maps (list_of stored)) (writes_have g.memory p.maps (list_of stored)) has,
+    λ page e. inl (writes_kept g.memory p.maps (list_of stored) page e),
+  )
+  by_effect calls = by_reply (call_number (regs_of p)) (reply_in true g p (call_number (regs_of p))) (reply_stays (call_number (regs_of p)))
+  by_effect (traps status) = (ended_has status, λ page e. end_stays g p status page)
+
+-- what is touched stays touched
+step_before : (g : Group) (pid : ℕ) (so_far : List (ℕ × ℕ)) (page : ℕ × ℕ) → is_among (touched_with_step true g pid so_far) page ≡ false → is_among so_far page ≡ false
+unfolding touched_with_step
+step_before g pid so_far page e = (apart so_far _ page e).0
+
+steps_before : (g : Group) (pid n : ℕ) (so_far : List (ℕ × ℕ)) (page : ℕ × ℕ) → is_among (touched_with_steps g pid n so_far) page ≡ false → is_among so_far page ≡ false
+unfolding touched_with_steps
+steps_before g pid zero so_far page e = e
+steps_before g pid (suc n) so_far page e = steps_before g pid n so_far page (step_before (steps_of g pid n) pid (touched_with_steps g pid n so_far) page e)
+
+turn_before : (quantum : ℕ) (g : Group) (pid n : ℕ) (so_far : List (ℕ × ℕ)) (page : ℕ × ℕ) → is_among (touched_with_turn quantum g pid n so_far) page ≡ false → is_among so_far page ≡ false
+turn_before quantum g pid n so_far page e = by_end (n == quantum) e
+  where
+    by_end : (t : Bool) → is_among (if t then touched_with_steps g pid n so_far else touched_with g pid n (touched_with_steps g pid n so_far)) page ≡ false → is_among so_far page ≡ false
+    by_end true e = steps_before g pid n so_far page e
+    by_end false e = steps_before g pid n so_far page (step_before (steps_of g pid n) pid (touched_with_steps g pid n so_far) page e)
+
+pub turn_touches : (quantum : ℕ) (g : Group) (pid n : ℕ) (so_far : List (ℕ × ℕ)) (page : ℕ × ℕ) → is_among so_far page ≡ true → is_among (touched_with_turn quantum g pid n so_far) page ≡ true
+turn_touches quantum g pid n so_far page e = by_test (is_among (touched_with_turn quantum g pid n so_far) page) refl
+  where
+    by_test : (b : Bool) → is_among (touched_with_turn quantum g pid n so_far) page ≡ b → b ≡ true
+    by_test true is = refl
+    by_test false is = let none = turn_before quantum g pid n so_far page is in absurd (cc)
+
+-- What some steps leave: files have their bytes, and a page that isn't touched stays or its object has gone.
+record Leaves (g h : Group) (touched : List (ℕ × ℕ)) : Type 0 where
+  pub files : FilesHaveBytes h.frame.opens h.memory
+  pub stays : (page : ℕ × ℕ) → is_among touched page ≡ false → Stays g.memory h.memory page
+
+step_leaves : (g : Group) (pid : ℕ) (so_far : List (ℕ × ℕ)) → FilesHaveBytes g.frame.opens g.memory → Leaves g (group_step true g pid) (touched_with_step true g pid so_far)
+unfolding group_step touched_with_step
+step_leaves g pid so_far has = found (runner g pid)
   where
     touched : Option Proc → List (ℕ × ℕ)
-    touched o = elim o [ None ↦ [] | Some p ↦ pages_of_writes p.maps (writes_in g p) ]
+    touched o = elim o [ None ↦ [] | Some p ↦ touched_by_effect true g p so_far (effect_in g p) ]
 
     result : Option Proc → Group
-    result o = elim o [ None ↦ g | Some p ↦ after_effect g p (effect_in g p) ]
+    result o = elim o [ None ↦ g | Some p ↦ after_effect true g p (effect_in g p) ]
 
-    found : (o : Option Proc) → is_among (touched o) page ≡ false → Stays g.memory (result o).memory page
-    found None e = inl refl
-    found (Some p) e = effect_stays g p page (effect_in g p) e
+    found : (o : Option Proc) → Leaves g (result o) (so_far ++ touched o)
+    found None = record { files = has; stays = λ page e. inl refl }
+    found (Some p) =
+        let s = by_effect g p so_far has (effect_in g p) in
+        record { files = s.0; stays = λ page e. s.1 page (apart so_far (touched_by_effect true g p so_far (effect_in g p)) page e).1 }
 
 stays_then : (a b c : List (ℕ × List ℕ)) (page : ℕ × ℕ) → Stays a b page → Stays b c page → Stays a c page
 stays_then a b c page x (inr gone) = inr gone
 stays_then a b c page (inl e) (inl f) = inl (f ∙ e)
 stays_then a b c page (inr gone) (inl f) = inr (f ∙ gone)
 
-steps_stay : (g : Group) (pid n : ℕ) (page : ℕ × ℕ) → is_among (touched_by_steps g pid n) page ≡ false → Stays g.memory (steps_of g pid n).memory page
-unfolding steps_of touched_by_steps
-steps_stay g pid zero page e = inl refl
-steps_stay g pid (suc n) page e =
-    let parts = apart (touched_by_steps g pid n) (touched_by_step (steps_of g pid n) pid) page e in
-    stays_then g.memory (steps_of g pid n).memory (do_step (steps_of g pid n) pid).memory page (steps_stay g pid n page parts.0) (step_stays (steps_of g pid n) pid page parts.1)
+-- one more step
+one_more : (g h : Group) (pid : ℕ) (so_far : List (ℕ × ℕ)) → Leaves g h so_far → Leaves g (group_step true h pid) (touched_with_step true h pid so_far)
+one_more g h pid so_far first =
+    let second = step_leaves h pid so_far first.files in
+    record { files = second.files; stays = λ page e. stays_then g.memory h.memory (group_step true h pid).memory page (first.stays page (step_before h pid so_far page e)) (second.stays page e) }
 
--- a turn changes no page that it doesn't touch
-pub turn_stays : (quantum : ℕ) (g : Group) (pid n : ℕ) (page : ℕ × ℕ) → is_among (touched_by_turn quantum g pid n) page ≡ false → Stays g.memory (turned quantum g pid n).memory page
-turn_stays quantum g pid n page e = by_end (n == quantum) e
+steps_leave : (g : Group) (pid n : ℕ) (so_far : List (ℕ × ℕ)) → FilesHaveBytes g.frame.opens g.memory → Leaves g (steps_of g pid n) (touched_with_steps g pid n so_far)
+unfolding steps_of touched_with_steps
+steps_leave g pid zero so_far has = record { files = has; stays = λ page e. inl refl }
+steps_leave g pid (suc n) so_far has = one_more g (steps_of g pid n) pid (touched_with_steps g pid n so_far) (steps_leave g pid n so_far has)
+
+turn_leaves : (quantum : ℕ) (g : Group) (pid n : ℕ) (so_far : List (ℕ × ℕ)) → FilesHaveBytes g.frame.opens g.memory → Leaves g (turned quantum g pid n) (touched_with_turn quantum g pid n so_far)
+turn_leaves quantum g pid n so_far has = by_end (n == quantum)
   where
-    by_end : (t : Bool) → is_among (touched_by_steps g pid n ++ (if t then [] else touched_by_step (steps_of g pid n) pid)) page ≡ false → Stays g.memory (if t then steps_of g pid n else do_step (steps_of g pid n) pid).memory page
-    by_end true e = steps_stay g pid n page (apart (touched_by_steps g pid n) [] page e).0
-    by_end false e =
-        let parts = apart (touched_by_steps g pid n) (touched_by_step (steps_of g pid n) pid) page e in
-        stays_then g.memory (steps_of g pid n).memory (do_step (steps_of g pid n) pid).memory page (steps_stay g pid n page parts.0) (step_stays (steps_of g pid n) pid page parts.1)
+    by_end : (t : Bool) → Leaves g (if t then steps_of g pid n else group_step true (steps_of g pid n) pid) (if t then touched_with_steps g pid n so_far else touched_with g pid n (touched_with_steps g pid n so_far))
+    by_end true = steps_leave g pid n so_far has
+    by_end false = one_more g (steps_of g pid n) pid (touched_with_steps g pid n so_far) (steps_leave g pid n so_far has)
+
+-- a turn in a valid group changes no page that it doesn't touch
+pub turn_stays : (quantum : ℕ) (g : Group) (pid n : ℕ) (so_far : List (ℕ × ℕ)) (page : ℕ × ℕ) → GroupIsValid g → is_among (touched_with_turn quantum g pid n so_far) page ≡ false → Stays g.memory (turned quantum g pid n).memory page
+turn_stays quantum g pid n so_far page valid = (turn_leaves quantum g pid n so_far (files_have_bytes g valid)).stays page
 
 -- The pages that aren't all zero are among those touched so far.
 abbrev Covers : List (ℕ × ℕ) → Group → Type 0
 Covers so_far g = (page : ℕ × ℕ) → is_zero_page g.memory page ≡ false → is_among so_far page ≡ true
 
-covers_mark : (quantum : ℕ) (g : Group) (so_far : List (ℕ × ℕ)) (m : Mark) → is_barrier m ≡ false → Covers so_far g → Covers (touched_after quantum g so_far m) (after_mark quantum g m)
-covers_mark quantum g so_far (Take worker pid) no_barrier covers page some = covers page some
-covers_mark quantum g so_far (Turn worker pid n) no_barrier covers page some = by_touch (is_among (touched_by_turn quantum g pid n) page) refl
-  where
-    joined : is_among (so_far ++ touched_by_turn quantum g pid n) page ≡ (is_among so_far page || is_among (touched_by_turn quantum g pid n) page)
-    joined = list_any-append (λ p. (p.0 == page.0) && (p.1 == page.1)) so_far (touched_by_turn quantum g pid n)
+files_after : (quantum : ℕ) (g : Group) (m : Mark) → FilesHaveBytes g.frame.opens g.memory → FilesHaveBytes (after_mark quantum g m).frame.opens (after_mark quantum g m).memory
+files_after quantum g (Take worker pid) has = has
+files_after quantum g (Turn worker pid n) has = (turn_leaves quantum g pid n [] has).files
+files_after quantum g (Barrier epoch) has = has
+files_after quantum g (Fetch epoch) has = has
+files_after quantum g (Ack epoch) has = has
 
-    or_true : (b : Bool) → (b || true) ≡ true
-    or_true true = refl
-    or_true false = refl
+covers_mark : (quantum : ℕ) (g : Group) (so_far : List (ℕ × ℕ)) (m : Mark) → FilesHaveBytes g.frame.opens g.memory → is_barrier m ≡ false → Covers so_far g → Covers (touched_after quantum g so_far m) (after_mark quantum g m)
+covers_mark quantum g so_far (Take worker pid) has no_barrier covers page some = covers page some
+covers_mark quantum g so_far (Turn worker pid n) has no_barrier covers page some = by_touch (is_among (touched_with_turn quantum g pid n so_far) page) refl
+  where
+    left : Leaves g (turned quantum g pid n) (touched_with_turn quantum g pid n so_far)
+    left = turn_leaves quantum g pid n so_far has
 
     kept : Stays g.memory (turned quantum g pid n).memory page → is_among so_far page ≡ true
     kept (inl same) = covers page (ap (λ (bytes : List ℕ). list_all (λ b. b == 0) bytes) (sym same) ∙ some)
     kept (inr gone) = let zero_page : is_zero_page (turned quantum g pid n).memory page ≡ true = ap (λ (bytes : List ℕ). list_all (λ b. b == 0) bytes) gone in absurd (cc)
 
-    by_touch : (t : Bool) → is_among (touched_by_turn quantum g pid n) page ≡ t → is_among (so_far ++ touched_by_turn quantum g pid n) page ≡ true
-    by_touch true e = joined ∙ ap (λ t. is_among so_far page || t) e ∙ or_true (is_among so_far page)
-    by_touch false e = joined ∙ ap (λ t. t || is_among (touched_by_turn quantum g pid n) page) (kept (turn_stays quantum g pid n page e))
-covers_mark quantum g so_far (Barrier epoch) no_barrier covers page some = absurd (cc)
-covers_mark quantum g so_far (Fetch epoch) no_barrier covers page some = covers page some
-covers_mark quantum g so_far (Ack epoch) no_barrier covers page some = covers page some
+    by_touch : (t : Bool) → is_among (touched_with_turn quantum g pid n so_far) page ≡ t → t ≡ true
+    by_touch true e = refl
+    by_touch false e = let before = turn_before quantum g pid n so_far page e in let covered = kept (left.stays page e) in absurd (cc)
+covers_mark quantum g so_far (Barrier epoch) has no_barrier covers page some = absurd (cc)
+covers_mark quantum g so_far (Fetch epoch) has no_barrier covers page some = covers page some
+covers_mark quantum g so_far (Ack epoch) has no_barrier covers page some = covers page some
 
 same_pair : (x y : ℕ × ℕ) → x.0 ≡ y.0 → x.1 ≡ y.1 → x ≡ y
 same_pair x y first second = let pair : ℕ → ℕ → ℕ × ℕ = λ a b. (a, b) in ap (λ (a : ℕ). pair a x.1) first ∙ ap (pair y.0) second
@@ -240,9 +332,9 @@ in_filter t (x ∷ xs) page k e = by_test (t x) ((x.0 == page.0) && (x.1 == page
     by_test false true f h rest e = let over : t x ≡ true = ap t (here h) ∙ k in absurd (cc)
     by_test false false f h rest e = rest e
 
-covers_from : (quantum : ℕ) (g : Group) (so_far : List (ℕ × ℕ)) (marks : List Mark) (epoch : ℕ) (h : Group) → Covers so_far g → list_any is_barrier marks ≡ false → h ≡ group_after quantum g marks → (page : ℕ × ℕ) → is_among (nonzero_pages h) page ≡ true → is_among (touched_from quantum g so_far (marks ++ Barrier epoch ∷ []) epoch) page ≡ true
+covers_from : (quantum : ℕ) (g : Group) (so_far : List (ℕ × ℕ)) (marks : List Mark) (epoch : ℕ) (h : Group) → FilesHaveBytes g.frame.opens g.memory → Covers so_far g → list_any is_barrier marks ≡ false → h ≡ group_after quantum g marks → (page : ℕ × ℕ) → is_among (nonzero_pages h) page ≡ true → is_among (touched_from quantum g so_far (marks ++ Barrier epoch ∷ []) epoch) page ≡ true
 unfolding touched_from group_after nonzero_pages
-covers_from quantum g so_far [] epoch h covers none is page e =
+covers_from quantum g so_far [] epoch h has covers none is page e =
     let P : Group → Type 0 = λ x. is_among (filter (λ page. not (is_zero_page x.memory page)) (all_pages x.frame)) page ≡ true in
     let found = among_filter (λ page. not (is_zero_page g.memory page)) (all_pages g.frame) page (subst P is e) in
     let some : is_zero_page g.memory page ≡ false = not_true (is_zero_page g.memory page) found.0 in
@@ -251,9 +343,9 @@ covers_from quantum g so_far [] epoch h covers none is page e =
   where
     itself : (n : ℕ) → (n == n) ≡ true
     itself n = search rules
-covers_from quantum g so_far (m ∷ ms) epoch h covers none is page e =
+covers_from quantum g so_far (m ∷ ms) epoch h has covers none is page e =
     let parts = or_both (is_barrier m) (list_any is_barrier ms) none in
-    not_here m parts.0 (covers_from quantum (after_mark quantum g m) (touched_after quantum g so_far m) ms epoch h (covers_mark quantum g so_far m parts.0 covers) parts.1 is page e)
+    not_here m parts.0 (covers_from quantum (after_mark quantum g m) (touched_after quantum g so_far m) ms epoch h (files_after quantum g m has) (covers_mark quantum g so_far m has parts.0 covers) parts.1 is page e)
   where
     not_here : (m : Mark) → is_barrier m ≡ false → is_among (touched_from quantum (after_mark quantum g m) (touched_after quantum g so_far m) (ms ++ Barrier epoch ∷ []) epoch) page ≡ true → is_among (if is_barrier_of epoch m then filter (is_among so_far) (all_pages g.frame) else touched_from quantum (after_mark quantum g m) (touched_after quantum g so_far m) (ms ++ Barrier epoch ∷ []) epoch) page ≡ true
     not_here (Take worker pid) other r = r
@@ -262,10 +354,52 @@ covers_from quantum g so_far (m ∷ ms) epoch h covers none is page e =
     not_here (Fetch e) other r = r
     not_here (Ack e) other r = r
 
+or_true : (b : Bool) → (b || true) ≡ true
+or_true true = refl
+or_true false = refl
+
+-- in a valid group each page that isn't all zero is one of its pages
+in_object : (object page count : ℕ) → page < count → is_among (map (λ k. (object, k)) (range_with_len 0 count)) (object, page) ≡ true
+in_object object page count lt = by_test (is_among (map (λ k. (object, k)) (range_with_len 0 count)) (object, page)) refl
+  where
+    nowhere : (page < 0) ⊎ (0 + count ≤ page) → ⊥
+    nowhere (inl below) = omega (arith, below)
+    nowhere (inr above) = omega (arith, above, lt)
+
+    by_test : (b : Bool) → is_among (map (λ k. (object, k)) (range_with_len 0 count)) (object, page) ≡ b → b ≡ true
+    by_test true is = refl
+    by_test false is = absurd (nowhere (not_between object page 0 count is))
+
+page_is_there : (objects : List ObjectRec) (memory : List (ℕ × List ℕ)) (page : ℕ × ℕ) → AllZip IsObject objects memory → is_zero_page memory page ≡ false → is_among (flat_map pages_of objects) page ≡ true
+page_is_there [] [] page zip some = let zero_page : is_zero_page [] page ≡ true = ap (λ (bytes : List ℕ). list_all (λ b. b == 0) bytes) (none_left (4096 * page.1)) in absurd (cc)
+page_is_there [] (e ∷ es) page zip some = absurd zip
+page_is_there (o ∷ os) [] page zip some = absurd zip
+page_is_there (o ∷ os) (e ∷ es) page zip some = joined ∙ by_test (e.0 == page.0) refl (page_is_there os es page zip.1)
+  where
+    joined : is_among (pages_of o ++ flat_map pages_of os) page ≡ (is_among (pages_of o) page || is_among (flat_map pages_of os) page)
+    joined = list_any-append (λ p. (p.0 == page.0) && (p.1 == page.1)) (pages_of o) (flat_map pages_of os)
+
+    inside : e.0 ≡ page.0 → (page.1 < o.pages) ⊎ (o.pages ≤ page.1) → is_among (pages_of o) page ≡ true
+    inside same (inl lt) = let its : o.number ≡ page.0 = sym zip.0.0 ∙ same in let P : ℕ → Type 0 = λ n. is_among (pages_of o) (n, page.1) ≡ true in subst P its (in_object o.number page.1 o.pages lt)
+    inside same (inr le) =
+        let hit : (e.0 == page.0) ≡ true = eq-eqb e.0 page.0 same in
+        let bytes : bytes_in (e ∷ es) page.0 ≡ e.1 = rw (bytes_in, hit) refl in
+        let size = zip.0.1 in
+        let none : drop (4096 * page.1) e.1 ≡ [] = drop_all (4096 * page.1) e.1 (omega (arith, size, le)) in
+        let zero_page : is_zero_page (e ∷ es) page ≡ true = ap (λ (bs : List ℕ). list_all (λ b. b == 0) (take 4096 (drop (4096 * page.1) bs))) bytes ∙ ap (λ (bs : List ℕ). list_all (λ b. b == 0) (take 4096 bs)) none in
+        absurd (cc)
+
+    by_test : (b : Bool) → (e.0 == page.0) ≡ b → (is_zero_page es page ≡ false → is_among (flat_map pages_of os) page ≡ true) → (is_among (pages_of o) page || is_among (flat_map pages_of os) page) ≡ true
+    by_test true hit rest = ap (λ t. t || is_among (flat_map pages_of os) page) (inside (eqb-true e.0 page.0 hit) (cases_lt page.1 o.pages))
+    by_test false miss rest =
+        let bytes : bytes_in (e ∷ es) page.0 ≡ bytes_in es page.0 = rw (bytes_in, miss) refl in
+        let later = rest (ap (λ (bs : List ℕ). list_all (λ b. b == 0) (take 4096 (drop (4096 * page.1) bs))) (sym bytes) ∙ some) in
+        ap (λ t. is_among (pages_of o) page || t) later ∙ or_true (is_among (pages_of o) page)
+
 -- At a new disk's first barrier each page that isn't all zero is touched.
-pub first_has_all : (quantum : ℕ) (start : Group) (marks : List Mark) (epoch : ℕ) → ((page : ℕ × ℕ) → is_zero_page start.memory page ≡ false → is_among (all_pages start.frame) page ≡ true) → list_any is_barrier marks ≡ false →
+pub first_has_all : (quantum : ℕ) (start : Group) (marks : List Mark) (epoch : ℕ) → GroupIsValid start → list_any is_barrier marks ≡ false →
     (page : ℕ × ℕ) → is_among (nonzero_pages (group_after quantum start marks)) page ≡ true → is_among (touched_pages quantum start 0 (marks ++ Barrier epoch ∷ []) epoch) page ≡ true
-unfolding nonzero_pages
-first_has_all quantum start marks epoch placed none page e =
-    covers_from quantum start (nonzero_pages start) marks epoch (group_after quantum start marks)
-    (λ page some. in_filter (λ page. not (is_zero_page start.memory page)) (all_pages start.frame) page (ap not some) (placed page some)) none refl page e
+unfolding nonzero_pages all_pages
+first_has_all quantum start marks epoch valid none page e =
+    covers_from quantum start (nonzero_pages start) marks epoch (group_after quantum start marks) (files_have_bytes start valid)
+    (λ page some. in_filter (λ page. not (is_zero_page start.memory page)) (all_pages start.frame) page (ap not some) (page_is_there start.frame.objects start.memory page valid.sound.memory.bytes some)) none refl page e

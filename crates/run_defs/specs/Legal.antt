@@ -1,17 +1,17 @@
 -- Which traces are legal: what must stand before each mark.
-use Rattle.std.specs.Prelude.{◌≡◌, ◌⊎◌, ℕ, ◌+◌, ◌<◌, max, ◌&&◌, ◌||◌, ◌==◌, not, nat_lt, Bool, false, if◌then◌else◌, List, [], ◌∷◌, ◌++◌, map, length, Option, Some, None, IsTrue, slice_get}
+use Rattle.std.specs.Prelude.{◌≡◌, ◌⊎◌, ℕ, ◌+◌, ◌<◌, max, ◌&&◌, ◌||◌, ◌==◌, not, nat_lt, Bool, true, false, if◌then◌else◌, List, [], ◌∷◌, ◌++◌, map, length, Option, Some, None, IsTrue, slice_get}
 use Rattle.std.specs.List.{find, filter, list_any}
 use Rattle.run_defs.specs.declared.run.Limits.{Limits}
 use Rattle.run_defs.specs.declared.run.Mark.{Mark}
 use Rattle.run_defs.specs.declared.run.Mark.TheVariants.{Take, Turn, Barrier, Fetch, Ack}
 use Rattle.group_defs.specs.Group.{Group, is_running}
-use Rattle.group_defs.specs.Step.{is_waiting}
+use Rattle.group_defs.specs.Step.{group_waits}
 use Rattle.run_defs.specs.Trace.{after_mark, group_after, turns_in, barriers_in, since_barrier, is_lease, leases, last_taken, all_acked, is_take_of, is_barrier_of, is_fetch_of, is_ack_of}
 use Rattle.run_defs.specs.Turns.{IsTurn, does_something}
 
 -- the pids that run and don't wait; they rise, as the processes of a valid group do
 unfoldable pub ready : Group → List ℕ
-ready g = map (λ p. p.pid) (filter (λ p. is_running p && not (is_waiting g p.pid)) g.frame.procs)
+ready g = map (λ p. p.pid) (filter (λ p. is_running p && not (group_waits true g p.pid)) g.frame.procs)
 
 -- the least one above the last one taken, else the least
 abbrev pub next_pid : ℕ → List ℕ → Option ℕ

@@ -1,24 +1,31 @@
 -- Which pages an interval between two barriers touched: those that a checkpoint has to write.
-use Rattle.std.specs.Prelude.{ℕ, zero, suc, ◌+◌, ◌*◌, ◌/◌, ◌&&◌, ◌==◌, if◌then◌else◌, List, [], ◌∷◌, ◌++◌}
+use Rattle.std.specs.Prelude.{ℕ, zero, suc, ◌==◌, true, if◌then◌else◌, List, [], ◌∷◌}
 use Rattle.std.specs.List.{filter}
 use Rattle.run_defs.specs.declared.run.Mark.{Mark}
 use Rattle.run_defs.specs.declared.run.Mark.TheVariants.{Take, Turn, Barrier, Fetch, Ack}
 use Rattle.group_defs.specs.Group.{Group}
+use Rattle.group_defs.specs.Pages.{all_pages, is_among, nonzero_pages, touched_with_step}
 use Rattle.run_defs.specs.Trace.{after_mark, is_barrier_of}
 use Rattle.run_defs.specs.Turns.{steps_of}
-use Rattle.group_defs.specs.Pages.{all_pages, nonzero_pages, touched_by_step, is_among}
 
-unfoldable pub touched_by_steps : Group → ℕ → ℕ → List (ℕ × ℕ)
-touched_by_steps g pid zero = []
-touched_by_steps g pid (suc n) = touched_by_steps g pid n ++ touched_by_step (steps_of g pid n) pid
+-- The pages touched so far in the interval, with the step that follows n steps of a turn.
+abbrev pub touched_with : Group → ℕ → ℕ → List (ℕ × ℕ) → List (ℕ × ℕ)
+touched_with g pid n so_far = touched_with_step true (steps_of g pid n) pid so_far
 
-abbrev pub touched_by_turn : ℕ → Group → ℕ → ℕ → List (ℕ × ℕ)
-touched_by_turn quantum g pid n = touched_by_steps g pid n ++ (if n == quantum then [] else touched_by_step (steps_of g pid n) pid)
+-- with n steps, each of which reads what was touched before it
+unfoldable pub touched_with_steps : Group → ℕ → ℕ → List (ℕ × ℕ) → List (ℕ × ℕ)
+touched_with_steps g pid zero so_far = so_far
+touched_with_steps g pid (suc n) so_far = touched_with g pid n (touched_with_steps g pid n so_far)
+
+-- with a turn of n local steps
+abbrev pub touched_with_turn : ℕ → Group → ℕ → ℕ → List (ℕ × ℕ) → List (ℕ × ℕ)
+touched_with_turn quantum g pid n so_far =
+    if n == quantum then touched_with_steps g pid n so_far else touched_with g pid n (touched_with_steps g pid n so_far)
 
 -- A barrier begins a new interval.
 abbrev pub touched_after : ℕ → Group → List (ℕ × ℕ) → Mark → List (ℕ × ℕ)
 touched_after quantum g so_far (Take worker pid) = so_far
-touched_after quantum g so_far (Turn worker pid n) = so_far ++ touched_by_turn quantum g pid n
+touched_after quantum g so_far (Turn worker pid n) = touched_with_turn quantum g pid n so_far
 touched_after quantum g so_far (Barrier epoch) = []
 touched_after quantum g so_far (Fetch epoch) = so_far
 touched_after quantum g so_far (Ack epoch) = so_far

@@ -4,9 +4,9 @@ use Rattle.std.specs.List.{filter, filter_map, list_any, list_all, count_by, fol
 use Rattle.std.specs.Option.{option_map}
 use Rattle.run_defs.specs.declared.run.Mark.{Mark}
 use Rattle.run_defs.specs.declared.run.Mark.TheVariants.{Take, Turn, Barrier, Fetch, Ack}
+use Rattle.group_defs.specs.Changes.{with_out}
 use Rattle.group_defs.specs.Group.{Group}
 use Rattle.group_defs.specs.Output.{out_after_barrier}
-use Rattle.group_defs.specs.Step.{with_out}
 use Rattle.run_defs.specs.Turns.{turned}
 
 -- All but the output stays.

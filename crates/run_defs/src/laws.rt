@@ -10,11 +10,14 @@ ghost use Rattle.run_defs.specs.AtRest.{BarriersLetOut, EpochsHaveGroups, Output
 ghost use Rattle.run_defs.specs.Ends.{IsDone};
 ghost use Rattle.group_defs.specs.Group.{Group};
 ghost use Rattle.run_defs.specs.Legal.{Allowed, Legal, did_something, has_moved};
+ghost use Rattle.run_defs.specs.Limits.{LimitsFit, MarksFit};
+ghost use Rattle.group_defs.specs.Valid.{GroupIsValid};
+ghost use Rattle.group_laws.specs.Fresh.{IsFresh, HasUnwornNumbers};
 ghost use Rattle.group_defs.specs.Output.{last_position, room, with_output};
 ghost use Rattle.run_defs.specs.Smallest.{default_limits, exits_at_once, exit_trace, says_hi, hi_trace, asks_in_vain, family, family_left};
 ghost use Rattle.run_defs.specs.Solo.{IsSoloPrefix, IsSoloSoFar, IsSoloTrace};
-ghost use Rattle.group_defs.specs.Pages.{all_pages, is_among, is_zero_page, nonzero_pages, page_bytes};
-ghost use Rattle.run_defs.specs.Touched.{touched_by_turn, touched_pages};
+ghost use Rattle.group_defs.specs.Pages.{is_among, nonzero_pages, page_bytes};
+ghost use Rattle.run_defs.specs.Touched.{touched_pages, touched_with_turn};
 ghost use Rattle.run_defs.specs.Trace.{all_appended, appended, barrier, barriers_in, group_after, is_ack_of, is_barrier, is_barrier_of, is_take_of, output};
 ghost use Rattle.run_defs.specs.Turns.{steps_of, turned};
 
@@ -148,19 +151,39 @@ pub fn one_trace_on_one_thread()
         → RestsFollow start origin limits }
 {}
 
-/// A turn changes no page that it doesn't touch: the page's bytes stay, or its object has gone.
+/// A turn in a valid group changes no page that it doesn't touch: the page's bytes stay, or its object has gone. What was
+/// touched stays touched.
 pub fn untouched_pages_stay()
-    ensures { (quantum : ℕ) (g : Group) (pid n : ℕ) (page : ℕ × ℕ)
-        → is_among (touched_by_turn quantum g pid n) page ≡ false
+    ensures stay { (quantum : ℕ) (g : Group) (pid n : ℕ) (so_far : List (ℕ × ℕ)) (page : ℕ × ℕ)
+        → GroupIsValid g → is_among (touched_with_turn quantum g pid n so_far) page ≡ false
         → (page_bytes (turned quantum g pid n).memory page ≡ page_bytes g.memory page)
         ⊎ (page_bytes (turned quantum g pid n).memory page ≡ []) }
+    ensures grow { (quantum : ℕ) (g : Group) (pid n : ℕ) (so_far : List (ℕ × ℕ)) (page : ℕ × ℕ)
+        → is_among so_far page ≡ true
+        → is_among (touched_with_turn quantum g pid n so_far) page ≡ true }
 {}
 
 /// At a new disk's first barrier each page that isn't all zero is touched.
 pub fn first_checkpoint_has_all()
-    ensures { (quantum : ℕ) (start : Group) (marks : List Mark) (epoch : ℕ)
-        → ((page : ℕ × ℕ) → is_zero_page start.memory page ≡ false
-        → is_among (all_pages start.frame) page ≡ true) → list_any is_barrier marks ≡ false
+    ensures { (quantum : ℕ) (start : Group) (marks : List Mark) (epoch : ℕ) → GroupIsValid start
+        → list_any is_barrier marks ≡ false
         → (page : ℕ × ℕ) → is_among (nonzero_pages (group_after quantum start marks)) page ≡ true
         → is_among (touched_pages quantum start 0 (marks ++ Barrier epoch ∷ []) epoch) page ≡ true }
+{}
+
+/// A run from a valid group that isn't worn keeps it valid, and its numbers far from their types' ends: after each mark, and
+/// within a turn after each step.
+pub fn runs_keep_validity()
+    ensures marks { (limits : Limits) (start : Group) (marks : List Mark) → LimitsFit limits
+        → GroupIsValid start → HasUnwornNumbers start → MarksFit limits marks
+        → GroupIsValid (group_after limits.quantum start marks)
+        × IsFresh (group_after limits.quantum start marks) }
+    ensures steps { (limits : Limits) (start : Group) (marks : List Mark) → LimitsFit limits
+        → GroupIsValid start → HasUnwornNumbers start → MarksFit limits marks
+        → (pid n : ℕ) → n ≤ limits.quantum
+        → GroupIsValid (steps_of (group_after limits.quantum start marks) pid n)
+        × IsFresh (steps_of (group_after limits.quantum start marks) pid n) }
+    // a legal trace and each beginning of it keep to the limits
+    ensures legal { (start : Group) (origin : ℕ) (limits : Limits) (marks : List Mark)
+        → Legal start origin limits marks → MarksFit limits marks }
 {}

@@ -12,7 +12,7 @@ use Rattle.run_defs.specs.Ends.{IsDone, IsStuck, IsSpent}
 use Rattle.group_defs.specs.Group.{Group}
 use Rattle.run_defs.specs.Legal.{Legal}
 use Rattle.run_defs.specs.Solo.{IsSoloPrefix, IsSoloTrace}
-use Rattle.run_defs.specs.Trace.{IsGroupOf, group_of_epoch, is_ack_of, is_fetch_of, is_fetch}
+use Rattle.run_defs.specs.Trace.{IsGroupOf, acked_epochs, group_of_epoch, is_ack_of, is_fetch_of, is_fetch}
 use Rattle.ckpt_records.specs.Newest.{NewestCheckpoint, HasNewest, epoch_after, used_by}
 use Rattle.ckpt_records.specs.Cost.{calls_for, cost_of, free_blocks}
 use Rattle.sls_core.specs.Safe.{RunSoFar, Safe, AreAcks, HoldsLastAcknowledged, Released, IsUnwritten, IsWhole, last_group}
@@ -61,6 +61,10 @@ calls_of_epoch run epoch = elim (group_of_epoch run.limits.quantum run.start run
 abbrev pub writes_allowed : RunSoFar → ℕ
 writes_allowed run = sum_by (calls_of_epoch run) (filter_map fetched_epoch run.trace)
 
+-- how many the commits of those epochs may make that the trace acknowledges
+abbrev pub writes_acknowledged : RunSoFar → ℕ
+writes_acknowledged run = sum_by (calls_of_epoch run) (acked_epochs run.trace)
+
 -- What a run has done so far, whose disk and output were these at its start, and whose disk was opened at this moment.
 pub record IsSafeSoFar (run : RunSoFar) (opened_at : ℕ) (acks : List AckMark) (disk disk' : DiskView)
     (out out' : SinkView) : Type 0 where
@@ -95,5 +99,7 @@ pub record IsSoloRun (run : RunSoFar) (opened_at : ℕ) (acks : List AckMark) (d
   -- After any answer but a disk fault no commit is under way: a stop now leaves what was acknowledged last.
   pub current : (answer ≡ DiskFault → ⊥)
       → ForSome disk.reading (λ r. (image : List ℕ) → LeftNow disk' image → HoldsLastAcknowledged run acks image)
+  -- Nor are the write calls more than the acknowledged commits may make, on every disk, told or not.
+  pub none_given_up : (answer ≡ DiskFault → ⊥) → disk'.writes ≤ disk.writes + writes_acknowledged run
   pub order : IsSoloPrefix run.start run.origin run.limits run.trace
   pub whole : EndsByItself answer → IsSoloTrace run.start run.origin run.limits run.trace

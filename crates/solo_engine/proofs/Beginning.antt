@@ -83,7 +83,7 @@ pub knows_kept : (count : ℕ) (o : Origin) (reading : Option (List ℕ)) (k : K
     → (x : NewestCheckpoint) × Describes k x × IsNewestAtStart g x × ForSome reading (λ r. HasNewest r x)
 knows_kept count o reading k g origin of known same =
     let f = kept_for count o reading origin of in
-    let lists : k.used.items ≡ used_by f.kept = known.used ∙ sym f.used in (
+    let lists : k.used ≡ used_by f.kept = known.used ∙ sym f.used in (
       f.kept,
       record {
         epoch = f.next ∙ ap (λ (n : ℕ). n + 1) (sym known.epoch);

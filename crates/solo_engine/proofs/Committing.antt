@@ -18,7 +18,7 @@ use Rattle.solo_engine.specs.declared.interval.PlannedCommit.{PlannedCommit}
 use Rattle.page_flusher.specs.declared.kept.KeptBlocks.{KeptBlocks}
 
 -- before the commit the disk has what is kept
-pub before_commit : (count : ℕ) (k : KeptBlocks) (kept : NewestCheckpoint) (r : List ℕ) → Describes k kept → length r ≡ 4096 * count → HasNewest r kept → IsBeforeCommit count k.used.items (k.epoch + 1) k.target kept r
+pub before_commit : (count : ℕ) (k : KeptBlocks) (kept : NewestCheckpoint) (r : List ℕ) → Describes k kept → length r ≡ 4096 * count → HasNewest r kept → IsBeforeCommit count k.used (k.epoch + 1) k.target kept r
 before_commit count k kept r knows size keeps = record { covers = λ b has. (knows.used b).1 has; next = knows.epoch; into = knows.target; size = size; keeps = keeps }
 
 pub leaves_kept : (count : ℕ) (g : Group) (k : KeptBlocks) (r : PlannedCommit) (close : Bool) (disk disk' : DiskView) → IsPlanned count g k r → 16 ≤ count → ((bytes : List ℕ) → disk.reading ≡ Some bytes → length bytes ≡ 4096 * count)

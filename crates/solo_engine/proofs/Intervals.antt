@@ -24,7 +24,7 @@ use Rattle.ckpt_chain.specs.Chain.{Has}
 use Rattle.ckpt_chain.specs.declared.slot.Slot.{Slot}
 use Rattle.ckpt_records.specs.Holds.{Holds, HoldsAt, IsCheckpointed}
 use Rattle.commit_gate.specs.Whole.{IsDataBlock, finished, numbers}
-use Rattle.sls_core.specs.Answers.{EndsByItself, EndsFor, IsSoloRun, IsSafeSoFar, writes_allowed}
+use Rattle.sls_core.specs.Answers.{EndsByItself, EndsFor, IsSoloRun, IsSafeSoFar, writes_acknowledged, writes_allowed}
 use Rattle.run_defs.specs.AtRest.{EpochsHaveGroups, IsTraceAtRest, acknowledged}
 use Rattle.run_defs.specs.Trace.{output_between}
 use Rattle.solo_engine.specs.Interval.{EndsIn, IsCommitted, IsFetched, IsNewestAtStart, IsPlanned, IsStart, IsUncommitted, IsUnplanned, LeavesNewestOrNext, ReleasesPart, ReleasesRest, StopsTurning, rest_of}
@@ -42,7 +42,7 @@ use Rattle.solo_engine.proofs.Committing.{before_commit}
 use Rattle.dev_traits.specs.SinkLaws.{takes_none}
 use Rattle.solo_engine.proofs.SafeSoFar.{IsCommitting, IsLastBarrier, IsNewestOfRun, Reached, acks_below, acks_later, acks_longer, acks_more, kept_acked, kept_longer, longer, reached_longer, reached_more, released, safe_acked, safe_during, safe_longer}
 use Rattle.solo_engine.proofs.ReleasedInTime.{Covered, IsBehind, behind_ack, behind_fetch, behind_turns, covered_first, covered_more, covered_next, covered_up, in_time_at_start, released_in_time}
-use Rattle.solo_engine.proofs.WriteLaws.{allowed_fetched, allowed_longer}
+use Rattle.solo_engine.proofs.WriteLaws.{acknowledged_longer, acknowledged_more, allowed_fetched, allowed_longer}
 
 -- between two intervals
 pub record IsRunAtRest (limits : Limits) (start : Group) (origin : ℕ) (disk0 : DiskView) (out0 : SinkView) (g : Group) (k : KeptBlocks) (made : ℕ) (trace : List Mark) (acks : List AckMark) (disk : DiskView) (out : SinkView) : Type 0 where
@@ -52,6 +52,8 @@ pub record IsRunAtRest (limits : Limits) (start : Group) (origin : ℕ) (disk0 :
   pub epochs : k.epoch ≤ 2 ^ 62 + made
   pub within : made ≤ limits.turns
   pub safe : IsSafeSoFar (run_of limits start origin trace) disk0.moment acks disk0 disk out0 out
+  -- each commit that was begun is acknowledged
+  pub none_given_up : disk.writes ≤ disk0.writes + writes_acknowledged (run_of limits start origin trace)
   pub disk_faults : disk0.faults ≤ disk.faults
   pub out_faults : out0.faults ≤ out.faults
   pub told : (r : List ℕ) → disk0.reading ≡ Some r → (now : List ℕ) × (disk.reading ≡ Some now)
@@ -73,10 +75,10 @@ rose_later : (a b c : ℕ) → a ≤ b → Rose b c → Rose a c
 rose_later a b c le rose = omega (arith, le, rose)
 
 safe_run : (limits : Limits) (start : Group) (origin : ℕ) → IsStart limits start origin → (trace : List Mark) → IsSoloSoFar start origin limits trace → (acks : List AckMark) (disk0 disk : DiskView) (out0 out : SinkView) (answer : RunAnswer)
-    → IsSafeSoFar (run_of limits start origin trace) disk0.moment acks disk0 disk out0 out → ((answer ≡ DiskFault → ⊥) → ForSome disk0.reading (λ r. (image : List ℕ) → LeftNow disk image → HoldsLastAcknowledged (run_of limits start origin trace) acks image))
+    → IsSafeSoFar (run_of limits start origin trace) disk0.moment acks disk0 disk out0 out → ((answer ≡ DiskFault → ⊥) → ForSome disk0.reading (λ r. (image : List ℕ) → LeftNow disk image → HoldsLastAcknowledged (run_of limits start origin trace) acks image)) → ((answer ≡ DiskFault → ⊥) → disk.writes ≤ disk0.writes + writes_acknowledged (run_of limits start origin trace))
     → EndsFor (run_of limits start origin trace) disk0 disk out0 out answer → (EndsByItself answer → IsSoloTrace start origin limits trace) → IsSoloRun (run_of limits start origin trace) disk0.moment acks disk0 disk out0 out answer
-safe_run limits start origin s trace so_far acks disk0 disk out0 out answer safe current ends whole =
-    record { safe = record { legal = so_far.legal; stands = safe; ends = ends }; current = current; order = s.prefix trace so_far; whole = whole }
+safe_run limits start origin s trace so_far acks disk0 disk out0 out answer safe current written ends whole =
+    record { safe = record { legal = so_far.legal; stands = safe; ends = ends }; current = current; none_given_up = written; order = s.prefix trace so_far; whole = whole }
 
 itself : (n : ℕ) → (n == n) ≡ true
 itself n = grind arith
@@ -143,13 +145,16 @@ module _ (limits : Limits) (start : Group) (origin : ℕ) (s : IsStart limits st
       let now = rest.told r told in
       keeps_last rest.kept more image rest.kept_is (subst (λ (x : List ℕ). HasNewest x rest.kept) (sym (rest.only now.0 now.1 image left)) (rest.keeps now.0 now.1))
 
+  written_on : (more : List Mark) → disk.writes ≤ disk0.writes + writes_acknowledged (run_of limits start origin (trace ++ more))
+  written_on more = omega (arith, rest.none_given_up, acknowledged_longer (run_of limits start origin trace) s.epochs more)
+
   -- memory ran out during the turns
   pub stopped : (trace' : List Mark) → StopsTurning limits trace trace' g made → IsSoloRun (run_of limits start origin trace') disk0.moment acks disk0 disk out0 out NoMemory
   stopped trace' stop =
       let l = stop.longer in
       let at : IsSoloRun (run_of limits start origin (trace ++ l.more)) disk0.moment acks disk0 disk out0 out NoMemory =
       safe_run limits start origin s (trace ++ l.more) (let P : List Mark → Type 0 = λ x. IsSoloSoFar start origin limits x in subst P l.trace_is (stop.so_far start origin k.epoch rest.stands))
-      acks disk0 disk out0 out NoMemory (stands_on l.more (behind_turns k.epoch l.more l.none) l.unacked) (λ other. current_on l.more) tt (λ e. absurd e) in
+      acks disk0 disk out0 out NoMemory (stands_on l.more (behind_turns k.epoch l.more l.none) l.unacked) (λ other. current_on l.more) (λ other. written_on l.more) tt (λ e. absurd e) in
       subst (λ (x : List Mark). IsSoloRun (run_of limits start origin x) disk0.moment acks disk0 disk out0 out NoMemory) (sym l.trace_is) at
 
   -- ---- a barrier that is fetched
@@ -195,6 +200,9 @@ module _ (limits : Limits) (start : Group) (origin : ℕ) (s : IsStart limits st
     current_fetched : ForSome disk0.reading (λ r. (image : List ℕ) → LeftNow disk image → HoldsLastAcknowledged (run_of limits start origin trace') acks image)
     current_fetched = subst (λ (x : List Mark). ForSome disk0.reading (λ r. (image : List ℕ) → LeftNow disk image → HoldsLastAcknowledged (run_of limits start origin x) acks image)) (sym trace_is) (current_on behind)
 
+    written_fetched : disk.writes ≤ disk0.writes + writes_acknowledged (run_of limits start origin trace')
+    written_fetched = subst (λ (x : List Mark). disk.writes ≤ disk0.writes + writes_acknowledged (run_of limits start origin x)) (sym trace_is) (written_on behind)
+
     fetched_at : (p : Mark → Bool) → p (Fetch (k.epoch + 1)) ≡ true → list_any p trace' ≡ true
     fetched_at p hit = ap (list_any p) f.trace_is ∙ found_there p (f.marks ++ Barrier (k.epoch + 1) ∷ []) [] (Fetch (k.epoch + 1)) hit
 
@@ -232,7 +240,7 @@ module _ (limits : Limits) (start : Group) (origin : ℕ) (s : IsStart limits st
     -- there was no plan
     pub unplanned : (answer : RunAnswer) (count : ℕ) → count ≡ disk.blocks → IsUnplanned count g' k answer → IsSoloRun (run_of limits start origin trace') disk0.moment acks disk0 disk out0 out answer
     unplanned (DiskFull need free) count same u =
-        safe_run limits start origin s trace' so_far acks disk0 disk out0 out (DiskFull need free) stands_fetched (λ other. current_fetched) (record {
+        safe_run limits start origin s trace' so_far acks disk0 disk out0 out (DiskFull need free) stands_fetched (λ other. current_fetched) (λ other. written_fetched) (record {
           epoch = k.epoch + 1;
           fetched = fetched_at (is_fetch_of (k.epoch + 1)) (itself (k.epoch + 1));
           unacked = no_ack;
@@ -247,7 +255,7 @@ module _ (limits : Limits) (start : Group) (origin : ℕ) (s : IsStart limits st
           };
           too_few = u.too_few;
         }) (λ e. absurd e)
-    unplanned NoMemory count same u = safe_run limits start origin s trace' so_far acks disk0 disk out0 out NoMemory stands_fetched (λ other. current_fetched) tt (λ e. absurd e)
+    unplanned NoMemory count same u = safe_run limits start origin s trace' so_far acks disk0 disk out0 out NoMemory stands_fetched (λ other. current_fetched) (λ other. written_fetched) tt (λ e. absurd e)
     unplanned Done count same u = absurd u
     unplanned Stuck count same u = absurd u
     unplanned Spent count same u = absurd u
@@ -277,12 +285,12 @@ module _ (limits : Limits) (start : Group) (origin : ℕ) (s : IsStart limits st
 
       -- the commit failed
       pub uncommitted : (disk' : DiskView) → IsUncommitted k g' disk disk' → IsSoloRun (run_of limits start origin trace') disk0.moment acks disk0 disk' out0 out DiskFault
-      uncommitted disk' u = safe_run limits start origin s trace' so_far acks disk0 disk' out0 out DiskFault (stands_written disk' u.leaves u.later u.blocks u.writes) (λ other. absurd (other refl)) (rose_later disk0.faults disk.faults disk'.faults rest.disk_faults u.rose) (λ e. absurd e)
+      uncommitted disk' u = safe_run limits start origin s trace' so_far acks disk0 disk' out0 out DiskFault (stands_written disk' u.leaves u.later u.blocks u.writes) (λ other. absurd (other refl)) (λ other. absurd (other refl)) (rose_later disk0.faults disk.faults disk'.faults rest.disk_faults u.rose) (λ e. absurd e)
 
       -- ---- it was acknowledged
       module _ (disk' : DiskView) (trace'' : List Mark) (acks' : List AckMark) (size : (r : List ℕ) → disk.reading ≡ Some r → length r ≡ 4096 * disk.blocks)
           (done : IsCommitted k g' ready.plan.blocks ready.plan.body disk disk' trace' trace'' acks acks') where
-        plan : IsPlan count k.used.items (k.epoch + 1) g' ready.plan.blocks ready.plan.body
+        plan : IsPlan count k.used (k.epoch + 1) g' ready.plan.blocks ready.plan.body
         plan = is_ready.plan
 
         kept' : NewestCheckpoint
@@ -365,6 +373,11 @@ module _ (limits : Limits) (start : Group) (origin : ℕ) (s : IsStart limits st
         current_acked r told image left =
             inl (g', subst (λ (e : ℕ). IsGroupOf limits.quantum start origin trace'' e g') (sym kept_is'.last) group_at', subst (λ (e : ℕ). Holds image e g') (sym kept_is'.last) (held_now r told image left))
 
+        written_acked : disk'.writes ≤ disk0.writes + writes_acknowledged (run_of limits start origin trace'')
+        written_acked =
+            let one = acknowledged_more (run_of limits start origin trace') s.epochs (k.epoch + 1) g' group_at in
+            subst (λ (t : List Mark). disk'.writes ≤ disk0.writes + writes_acknowledged (run_of limits start origin t)) (sym done.trace_is) (omega (arith, written_fetched, done.writes, one))
+
         -- ---- the release
         reaches_all : last_position g'.frame.out ≡ start.frame.out.from + length (output limits.quantum start trace'')
         reaches_all = s.lets_out.reaches trace'' g' made' 0 (k.epoch + 1) stands'
@@ -424,7 +437,7 @@ module _ (limits : Limits) (start : Group) (origin : ℕ) (s : IsStart limits st
         pub unreleased : (out' : SinkView) → ReleasesPart g'.frame.out out out' → IsSoloRun (run_of limits start origin trace'') disk0.moment acks' disk0 disk' out0 out' SinkFault
         unreleased out' r =
             let part : TakesPart g'.frame.out.bytes out out' = subst (λ (l : List ℕ). TakesPart l out out') rest_is r.part in
-            safe_run limits start origin s trace'' stands'.so_far acks' disk0 disk' out0 out' SinkFault (stands_acked out' (released_on out' part.0 (omega (arith, part.1)) part.2)) (λ other. current_acked) (rose_later out0.faults out.faults out'.faults rest.out_faults r.rose) (λ e. absurd e)
+            safe_run limits start origin s trace'' stands'.so_far acks' disk0 disk' out0 out' SinkFault (stands_acked out' (released_on out' part.0 (omega (arith, part.1)) part.2)) (λ other. current_acked) (λ other. written_acked) (rose_later out0.faults out.faults out'.faults rest.out_faults r.rose) (λ e. absurd e)
 
         -- an interval more
         pub rests_again : (out' : SinkView) → 16 ≤ disk.blocks → ReleasesRest g'.frame.out out out' → IsRunAtRest limits start origin disk0 out0 g' ready.next made' trace'' acks' disk' out'
@@ -439,6 +452,7 @@ module _ (limits : Limits) (start : Group) (origin : ℕ) (s : IsStart limits st
               epochs = omega (arith, is_ready.next.epoch, rest.epochs, f.comes.turned.made_is, f.comes.due.0);
               within = f.comes.turned.within;
               safe = stands_acked out' (released_on out' (length g'.frame.out.bytes) (omega arith) all);
+              none_given_up = written_acked;
               disk_faults = omega (arith, rest.disk_faults, done.faults);
               out_faults = omega (arith, rest.out_faults, r.faults);
               told = λ b told. let now = rest.told b told in (finished k.target ready.plan.blocks ready.plan.body now.0, read_now now.0 now.1);
@@ -461,7 +475,7 @@ module _ (limits : Limits) (start : Group) (origin : ℕ) (s : IsStart limits st
 
   -- ---- the end
   pub ended : (answer : RunAnswer) → (ready g ≡ []) ⊎ (limits.turns ≤ made) → EndsIn g answer → IsSoloRun (run_of limits start origin trace) disk0.moment acks disk0 disk out0 out answer
-  ended answer over ends = safe_run limits start origin s trace rest.stands.so_far acks disk0 disk out0 out answer rest.safe (λ other. current_now) (by_answer answer ends) (by_itself answer ends)
+  ended answer over ends = safe_run limits start origin s trace rest.stands.so_far acks disk0 disk out0 out answer rest.safe (λ other. current_now) (λ other. rest.none_given_up) (by_answer answer ends) (by_itself answer ends)
     where
       current_now : ForSome disk0.reading (λ r. (image : List ℕ) → LeftNow disk image → HoldsLastAcknowledged (run_of limits start origin trace) acks image)
       current_now = subst (λ (t : List Mark). ForSome disk0.reading (λ r. (image : List ℕ) → LeftNow disk image → HoldsLastAcknowledged (run_of limits start origin t) acks image)) (append-nil trace) (current_on [])
@@ -588,13 +602,13 @@ module _ (limits : Limits) (start : Group) (epoch : ℕ) (s : IsStart limits sta
 
   -- the output failed at once
   pub unreleased_first : (out' : SinkView) → ReleasesPart start.frame.out out out' → IsSoloRun (run_of limits start epoch []) disk.moment [] disk disk out out' SinkFault
-  unreleased_first out' r = safe_run limits start epoch s [] s.rests.begin.so_far [] disk disk out out' SinkFault (stands_first out' (released_first out' r.part.0 (omega (arith, r.part.1)) r.part.2)) (λ other. current_first) r.rose (λ e. absurd e)
+  unreleased_first out' r = safe_run limits start epoch s [] s.rests.begin.so_far [] disk disk out out' SinkFault (stands_first out' (released_first out' r.part.0 (omega (arith, r.part.1)) r.part.2)) (λ other. current_first) (λ other. omega arith) r.rose (λ e. absurd e)
 
   -- want of memory at once
   pub unbegun : IsSoloRun (run_of limits start epoch []) disk.moment [] disk disk out out NoMemory
   unbegun =
       safe_run limits start epoch s [] s.rests.begin.so_far [] disk disk out out NoMemory
-      (stands_first out (released_first out 0 (omega arith) (takes_none out))) (λ other. current_first) tt (λ e. absurd e)
+      (stands_first out (released_first out 0 (omega arith) (takes_none out))) (λ other. current_first) (λ other. omega arith) tt (λ e. absurd e)
 
 -- it is at rest again once the first release is done
 module _ (limits : Limits) (start : Group) (k : KeptBlocks) (s : IsStart limits start k.epoch) (disk : DiskView) (out : SinkView) (only : OnlyReading disk)
@@ -611,6 +625,7 @@ module _ (limits : Limits) (start : Group) (k : KeptBlocks) (s : IsStart limits 
         epochs = omega (arith, s.epoch);
         within = omega arith;
         safe = stands_first limits start k.epoch s disk out only kept knows.epoch first keeps least most out' (released_first limits start k.epoch s disk out only kept knows.epoch first keeps least most out' n (omega arith) all);
+        none_given_up = omega arith;
         disk_faults = omega arith;
         out_faults = r.faults;
         told = λ b told. (b, told);

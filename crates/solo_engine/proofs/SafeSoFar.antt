@@ -17,7 +17,7 @@ use Rattle.ckpt_records.specs.Newest.{NewestCheckpoint, nothing, checkpoint, epo
 use Rattle.page_flusher.specs.CommitPlan.{HasNewestOrNext}
 use Rattle.sls_core.specs.Safe.{IsReleasedInTime, RunSoFar, HoldsBarrier, HoldsOne, Safe, AreAcks, NeverFall, Released, last_epoch, last_acked, output_of}
 use Rattle.run_defs.specs.AtRest.{EpochsHaveGroups, OutputHasParts}
-use Rattle.ckpt_records.proofs.Ordered.{each_append, each_both, each_weaker}
+use Rattle.tables.proofs.Ordered.{each_append, each_both, each_weaker}
 use Rattle.dev_traits.specs.SinkLaws.{takes_both}
 use Rattle.std.proofs.lemmas.List.Folds.{list_any-append}
 

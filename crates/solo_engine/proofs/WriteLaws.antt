@@ -4,12 +4,12 @@ use Rattle.std.specs.List.{filter_map, sum_by}
 use Rattle.std.proofs.lemmas.List.Elements.{filter_map-append}
 use Rattle.std.proofs.lemmas.List.Sums.{sum_by-append, sum_by-cons}
 use Rattle.run_defs.specs.declared.run.Mark.{Mark}
-use Rattle.run_defs.specs.declared.run.Mark.TheVariants.{Barrier, Fetch}
+use Rattle.run_defs.specs.declared.run.Mark.TheVariants.{Barrier, Fetch, Ack}
 use Rattle.group_defs.specs.Group.{Group}
-use Rattle.run_defs.specs.Trace.{IsGroupOf, group_of_epoch}
+use Rattle.run_defs.specs.Trace.{IsGroupOf, acked_epoch, group_of_epoch}
 use Rattle.commit_gate.specs.Whole.{UpTo, calls_more, closing, write_calls}
 use Rattle.commit_gate.specs.declared.whole.Block.{Block}
-use Rattle.sls_core.specs.Answers.{calls_of_epoch, fetched_epoch, writes_allowed}
+use Rattle.sls_core.specs.Answers.{calls_of_epoch, fetched_epoch, writes_acknowledged, writes_allowed}
 use Rattle.ckpt_records.specs.Cost.{calls_for, cost_of}
 use Rattle.sls_core.specs.Safe.{RunSoFar}
 use Rattle.run_defs.specs.AtRest.{EpochsHaveGroups}
@@ -27,10 +27,10 @@ one_closing true = omega arith
 one_closing false = omega arith
 
 -- a commit whose blocks are those of a group
-pub committed_calls : (g : Group) (close : Bool) (blocks : List Block) (before after : ℕ) → length blocks ≡ cost_of g → after ≡ calls_more (write_calls close blocks) before → after ≤ before + calls_for g
+pub committed_calls : (g : Group) (close : Bool) (blocks : List Block) (before after : ℕ) → length blocks ≤ cost_of g → after ≡ calls_more (write_calls close blocks) before → after ≤ before + calls_for g
 committed_calls g close blocks before after size is = omega (arith, size, is, calls_within (write_calls close blocks) before, one_closing close)
 
-pub failed_calls : (g : Group) (close : Bool) (blocks : List Block) (before after : ℕ) → length blocks ≡ cost_of g → UpTo (write_calls close blocks) before after → after ≤ before + calls_for g
+pub failed_calls : (g : Group) (close : Bool) (blocks : List Block) (before after : ℕ) → length blocks ≤ cost_of g → UpTo (write_calls close blocks) before after → after ≤ before + calls_for g
 failed_calls g close blocks before after size up = omega (arith, size, up.1, up.2, calls_within up.0 before, one_closing close)
 
 -- ---- the calls of a trace
@@ -49,16 +49,21 @@ calls_rise run epochs more epoch = by_group (group_of_epoch run.limits.quantum r
     by_group None is = omega (arith, ap calls_in is)
     by_group (Some h) is = omega (arith, ap calls_in is, ap calls_in (epochs.later run.trace more epoch h is))
 
-sums_more : (run : RunSoFar) (epochs : EpochsHaveGroups run.start run.origin run.limits) (more : List Mark) → writes_allowed run + sum_by (calls_of_epoch (longer run more)) (filter_map fetched_epoch more) ≤ writes_allowed (longer run more)
-sums_more run epochs more =
-    let calls = calls_of_epoch (longer run more) in
-    let old = filter_map fetched_epoch run.trace in
-    let new = filter_map fetched_epoch more in
-    omega (arith, sums_rise (calls_of_epoch run) calls old (calls_rise run epochs more), ap (sum_by calls) (filter_map-append fetched_epoch run.trace more), sum_by-append calls old new)
+-- the epochs of some marks, as Fetches or as Acks
+module _ (epoch_in : Mark → Option ℕ) (run : RunSoFar) (epochs : EpochsHaveGroups run.start run.origin run.limits) (more : List Mark) where
+  sums_more : sum_by (calls_of_epoch run) (filter_map epoch_in run.trace) + sum_by (calls_of_epoch (longer run more)) (filter_map epoch_in more) ≤ sum_by (calls_of_epoch (longer run more)) (filter_map epoch_in (run.trace ++ more))
+  sums_more =
+      let calls = calls_of_epoch (longer run more) in
+      let old = filter_map epoch_in run.trace in
+      let new = filter_map epoch_in more in
+      omega (arith, sums_rise (calls_of_epoch run) calls old (calls_rise run epochs more), ap (sum_by calls) (filter_map-append epoch_in run.trace more), sum_by-append calls old new)
 
 -- marks more allow no fewer
 pub allowed_longer : (run : RunSoFar) (epochs : EpochsHaveGroups run.start run.origin run.limits) (more : List Mark) → writes_allowed run ≤ writes_allowed (longer run more)
-allowed_longer run epochs more = omega (arith, sums_more run epochs more)
+allowed_longer run epochs more = omega (arith, sums_more fetched_epoch run epochs more)
+
+pub acknowledged_longer : (run : RunSoFar) (epochs : EpochsHaveGroups run.start run.origin run.limits) (more : List Mark) → writes_acknowledged run ≤ writes_acknowledged (longer run more)
+acknowledged_longer run epochs more = omega (arith, sums_more acked_epoch run epochs more)
 
 -- a barrier and its fetch allow those of its group
 pub allowed_fetched : (run : RunSoFar) (epochs : EpochsHaveGroups run.start run.origin run.limits) (more : List Mark) (epoch : ℕ) (h : Group) → IsGroupOf run.limits.quantum run.start run.origin (run.trace ++ (more ++ Barrier epoch ∷ Fetch epoch ∷ [])) epoch h
@@ -67,4 +72,11 @@ allowed_fetched run epochs more epoch h is =
     let behind = more ++ Barrier epoch ∷ Fetch epoch ∷ [] in
     let calls = calls_of_epoch (longer run behind) in
     let old = filter_map fetched_epoch more in
-    omega (arith, sums_more run epochs behind, ap (sum_by calls) (filter_map-append fetched_epoch more (Barrier epoch ∷ Fetch epoch ∷ [])), sum_by-append calls old (epoch ∷ []), sum_by-cons calls epoch [], ap calls_in is)
+    omega (arith, sums_more fetched_epoch run epochs behind, ap (sum_by calls) (filter_map-append fetched_epoch more (Barrier epoch ∷ Fetch epoch ∷ [])), sum_by-append calls old (epoch ∷ []), sum_by-cons calls epoch [], ap calls_in is)
+
+-- an acknowledgement adds those of its group
+pub acknowledged_more : (run : RunSoFar) (epochs : EpochsHaveGroups run.start run.origin run.limits) (epoch : ℕ) (h : Group) → IsGroupOf run.limits.quantum run.start run.origin run.trace epoch h
+    → writes_acknowledged run + calls_for h ≤ writes_acknowledged (longer run (Ack epoch ∷ []))
+acknowledged_more run epochs epoch h is =
+    let calls = calls_of_epoch (longer run (Ack epoch ∷ [])) in
+    omega (arith, sums_more acked_epoch run epochs (Ack epoch ∷ []), sum_by-cons calls epoch [], ap calls_in (epochs.later run.trace (Ack epoch ∷ []) epoch h is))

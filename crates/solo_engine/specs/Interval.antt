@@ -72,12 +72,12 @@ pub record IsFetched (limits : Limits) (epoch : ℕ) (trace trace' : List Mark) 
 
 -- The commit of a group to a disk of so many blocks is planned, and what is known after it.
 pub record IsPlanned (count : ℕ) (g : Group) (k : KeptBlocks) (r : PlannedCommit) : Type 0 where
-  pub plan : IsPlan count k.used.items (k.epoch + 1) g r.plan.blocks r.plan.body
+  pub plan : IsPlan count k.used (k.epoch + 1) g r.plan.blocks r.plan.body
   pub next : IsKeptAfter k r.plan.blocks r.next
 
 -- The group needs more blocks than are free.
 pub record NeedsMore (count : ℕ) (g : Group) (k : KeptBlocks) (need free : ℕ) : Type 0 where
-  pub free_is : IsFreeCount count k.used.items free
+  pub free_is : IsFreeCount count k.used free
   pub need_is : need ≡ cost_of g
   pub too_few : free < need
 

@@ -131,11 +131,12 @@ fn plan_of(
     requires whole { AllByRecursion (λ p. length p.bytes ≡ 4096) pages.items }
     ensures ready { IfOk result (λ ready. IsPlanned count (group_in engine.now.group)
         engine.now.kept ready) }
-    ensures refused { IfErr result (λ refused. IsPlanRefused count engine.now.kept.used.items
+    ensures refused { IfErr result (λ refused. IsPlanRefused count engine.now.kept.used
         frame.now pages.items refused) }
 {
     let epoch = engine.kept.epoch + 1;
-    let plan = match plan_commit(alloc, count, &engine.kept.used, epoch, frame, pages) {
+    let used = engine.kept.used.as_slice();
+    let plan = match plan_commit(alloc, count, used, epoch, frame, pages) {
         Ok(plan) => plan,
         Err(refused) => return Err(refused),
     };

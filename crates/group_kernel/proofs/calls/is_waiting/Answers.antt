@@ -1,5 +1,5 @@
-use Rattle.std.proofs.Common.{sym, ap, ◌∙◌}
-use Rattle.group_defs.specs.Step.{is_waiting as waits}
+use Rattle.std.proofs.Common.{true, sym, ap, ◌∙◌}
+use Rattle.group_defs.specs.Step.{group_waits}
 use Rattle.group_kernel.specs.Engine.{group_in}
 use Rattle.group_kernel.specs.Memory.{memory_in}
 use Rattle.group_kernel.proofs.TurnLaws.{running_is, ended_is}
@@ -22,5 +22,5 @@ returns-else-is_at_call c =
     let memory = memory_in g.memory.objects.items in
     elim c.if-g.branch [
       | then-g w ↦ c.if-is_at_call.false ∙ sym (waits_nowhere_else g.fixed g.memory.maps g.regs memory g.out (group_in g) (running_is g.running g.fixed g.memory.maps g.regs memory g.out w.if-g.true) (λ call. absurd (cc (w.is_at_call.ensures.1 call, w.value-is, c.if-is_at_call.false))))
-      | else-g w ↦ c.if-is_at_call.false ∙ sym (ap (λ h. waits h g.fixed.pid) (ended_is g.running g.fixed g.memory.maps g.regs memory g.out w.if-g.false) ∙ ended_waits_not g.fixed.next g.out g.fixed.pid)
+      | else-g w ↦ c.if-is_at_call.false ∙ sym (ap (λ h. group_waits true h g.fixed.pid) (ended_is g.running g.fixed g.memory.maps g.regs memory g.out w.if-g.false) ∙ ended_waits_not g.fixed.next g.out g.fixed.pid)
     ]

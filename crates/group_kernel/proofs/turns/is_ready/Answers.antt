@@ -1,6 +1,6 @@
-use Rattle.std.proofs.Common.{◌∙◌, sym, ap, refl, Bool, ◌&&◌, not, ℕ, List, [], ◌∷◌}
+use Rattle.std.proofs.Common.{◌∙◌, sym, ap, refl, Bool, true, ◌&&◌, not, ℕ, List, [], ◌∷◌}
 use Rattle.std.specs.Prelude.{if◌then◌else◌}
-use Rattle.group_defs.specs.Step.{is_waiting}
+use Rattle.group_defs.specs.Step.{group_waits}
 use Rattle.group_kernel.specs.Engine.{group_in}
 use Rattle.group_kernel.specs.Memory.{memory_in}
 use Rattle.group_kernel.proofs.WaitLaws.{ready_is}
@@ -15,7 +15,7 @@ returns-then-g-clause-ready c =
 pub returns-else-g-clause-ready : goal.returns-else-g-clause-ready
 returns-else-g-clause-ready c =
     let g = c.args.g.now in
-    let t = is_waiting (group_in g) g.fixed.pid in
+    let t = group_waits true (group_in g) g.fixed.pid in
     ready_is g.running g.fixed g.memory.maps g.regs (memory_in g.memory.objects.items) g.out t refl
     ∙ ap (λ (b : Bool). let l : List ℕ = if b && not t then g.fixed.pid ∷ [] else [] in l) c.if-g.false
     ∙ ap (λ (b : Bool). let l : List ℕ = if b then g.fixed.pid ∷ [] else [] in l) (sym c.if-g.false)

@@ -1,6 +1,6 @@
-use Rattle.std.proofs.Common.{◌≡◌, ◌∙◌, sym, ap, subst}
+use Rattle.std.proofs.Common.{◌≡◌, true, ◌∙◌, sym, ap, subst}
 use Rattle.group_defs.specs.Group.{Group}
-use Rattle.group_defs.specs.Step.{do_step, is_local}
+use Rattle.group_defs.specs.Step.{group_step, is_local}
 use Rattle.group_kernel.specs.Engine.{group_in, running_group, IsRunnable}
 use Rattle.group_kernel.specs.Memory.{memory_in}
 use Rattle.group_kernel.specs.declared.engine_group.EngineGroup.{EngineGroup}
@@ -15,7 +15,7 @@ before g runs = running_is g.running g.fixed g.memory.maps g.regs (memory_in g.m
 valid : (g : EngineGroup) → IsTrue g.running → IsRunnable (group_in g) → IsRunnable (running_group g.fixed g.memory.maps g.regs (memory_in g.memory.objects.items) g.out)
 valid g runs runnable = subst IsRunnable (before g runs) runnable
 
-stepped : (c : goal.After-registers_fit) → (let g = c.args.g.now in let s = c.local_step.new.space in Steps g.fixed g.memory.maps g.regs (memory_in g.memory.objects.items) g.out s.maps c.local_step.new.regs (memory_in s.objects.items))
+stepped : (c : goal.In-Stepped) → (let g = c.args.g.now in let s = c.local_step.new.space in Steps g.fixed g.memory.maps g.regs (memory_in g.memory.objects.items) g.out s.maps c.local_step.new.regs (memory_in s.objects.items))
 stepped c =
     let g = c.args.g.now in
     let s = c.local_step.new.space in
@@ -30,13 +30,13 @@ returns-in-Stepped-clause-group c =
     let s = c.local_step.new.space in
     running_is g.running g.fixed s.maps c.local_step.new.regs (memory_in s.objects.items) g.out c.requires.running
     ∙ (stepped c).group
-    ∙ ap (λ (x : Group). do_step x g.fixed.pid) (sym (before g c.requires.running))
+    ∙ ap (λ (x : Group). group_step true x g.fixed.pid) (sym (before g c.requires.running))
 
 pub returns-in-Stepped-clause-runnable : goal.returns-in-Stepped-clause-runnable
 returns-in-Stepped-clause-runnable c =
     let g = c.args.g.now in
     let s = c.local_step.new.space in
-    subst IsRunnable (sym (running_is g.running g.fixed s.maps c.local_step.new.regs (memory_in s.objects.items) g.out c.requires.running)) ((stepped c).runnable c.registers_fit.ensures)
+    subst IsRunnable (sym (running_is g.running g.fixed s.maps c.local_step.new.regs (memory_in s.objects.items) g.out c.requires.running)) (stepped c).runnable
 
 pub returns-in-Shared-clause-local : goal.returns-in-Shared-clause-local
 returns-in-Shared-clause-local c =

@@ -1,7 +1,7 @@
-use Rattle.std.proofs.Common.{◌≡◌, ◌+◌, ◌<◌, ◌≤◌, ◌^◌, refl, sym, ap, subst, ◌∙◌, arith}
+use Rattle.std.proofs.Common.{◌≡◌, true, ◌+◌, ◌<◌, ◌≤◌, ◌^◌, refl, sym, ap, subst, ◌∙◌, arith}
 use Rattle.group_defs.specs.declared.frame.Out.{Out}
 use Rattle.group_defs.specs.Output.{last_position}
-use Rattle.group_defs.specs.Step.{do_step}
+use Rattle.group_defs.specs.Step.{group_step}
 use Rattle.group_defs.specs.Valid.{OutValid}
 use Rattle.group_kernel.specs.Engine.{group_in}
 use Rattle.group_kernel.specs.Memory.{memory_in}
@@ -11,8 +11,8 @@ use Rattle.group_kernel.proofs.KeptLaws.{Grew, Follows}
 use Rattle.group_kernel.proofs.TurnLaws.{output_is, output_valid, turn_follows, is_a_turn, turned_short, turned_whole}
 use Rattle.group_kernel.proofs.turns.turn.Goals as goal
 
-stepped : (c : goal.In_ok-other_step) → group_in c.other_step.new.g ≡ do_step (group_in c.local_steps.new.g) c.args.g.now.fixed.pid
-stepped c = c.in_ok-other_step.ensures.ok ∙ ap (λ (x : Fixed). do_step (group_in c.local_steps.new.g) x.pid) c.in_ok-n.ensures.fixed
+stepped : (c : goal.In_ok-other_step) → group_in c.other_step.new.g ≡ group_step true (group_in c.local_steps.new.g) c.args.g.now.fixed.pid
+stepped c = c.in_ok-other_step.ensures.ok ∙ ap (λ (x : Fixed). group_step true (group_in c.local_steps.new.g) x.pid) c.in_ok-n.ensures.fixed
 
 output_in : (g : EngineGroup) → (group_in g).frame.out ≡ g.out
 output_in g = output_is g.running g.fixed g.memory.maps g.regs (memory_in g.memory.objects.items) g.out

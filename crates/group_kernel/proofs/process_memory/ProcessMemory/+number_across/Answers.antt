@@ -1,6 +1,6 @@
 use Rattle.std.proofs.Common.{◌≡◌, suc, ◌+◌, ◌-◌, ◌*◌, ◌^◌, ◌<◌, sym, ◌∙◌, ap, arith, Some}
 use Rattle.group_defs.specs.Cells.{cells_of}
-use Rattle.rv64_core.proofs.Bytes.{number_zero, number_none, number_high, number_more, room, bounded}
+use Rattle.rv64_core.specs.ByteLaws.{number_zero, number_none, number_high, number_more, room, bounded}
 use Rattle.group_kernel.specs.Memory.{memory_in}
 use Rattle.group_kernel.proofs.MemoryReads.{single}
 use Rattle.group_kernel.proofs.process_memory.ProcessMemory.+number_across.Goals as goal

@@ -1,0 +1,2 @@
+pub mod MemorySample
+pub mod TurnSample
