@@ -119,6 +119,7 @@ module _ (run : RunSoFar) (before opened disk : DiskView) (out out' : SinkView) 
       ends = ends_as run before opened disk out out' answer unwritten.later ran.safe.ends;
     };
     current = λ no_fault r told. ran.current no_fault r (unwritten.reading ∙ told);
+    none_given_up = λ no_fault. omega (arith, ran.none_given_up no_fault, unwritten.writes);
     order = ran.order;
     whole = ran.whole;
   }

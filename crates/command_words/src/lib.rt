@@ -14,6 +14,3 @@ mod words;
 pub use end::{End, status_of};
 pub use say::say_line;
 pub use words::{Beginning, Command, Mode, command_of, mode_of};
-
-#[cfg(test)]
-mod tests;

@@ -164,9 +164,9 @@ module _ (pages : ℕ) (some : 1 ≤ pages) (few : pages ≤ 4096) where
   unfolding IsOpen
   second_open = (1, record { number = 1; kind = Outside; offset = 0; flags = 0 }, omega arith, refl, refl)
 
-  names_hold : NamesSound procs first_opens
+  names_hold : NamesSound procs [] first_opens
   unfolding DescriptorsValid
-  names_hold = record { fds = all_one (DescriptorsValid first_opens) (first_process pages) (all_three (λ (d : ℕ × ℕ). IsOpen first_opens d.1) _ _ _ first_open second_open second_open) }
+  names_hold = record { fds = all_one (DescriptorsValid first_opens) (first_process pages) (all_three (λ (d : ℕ × ℕ). IsOpen first_opens d.1) _ _ _ first_open second_open second_open); carried = λ _ _ lt. absurd (omega arith) }
 
   opens_hold : OpensSound 2 first_opens [] [] []
   opens_hold = record {
@@ -205,7 +205,7 @@ module _ (pages : ℕ) (some : 1 ≤ pages) (few : pages ≤ 4096) where
   held_holds : AllHeld (first_frame pages)
   unfolding is_held is_kept is_of_file maps_object
   held_holds = record {
-    opens = all_two (λ (o : Open). IsTrue (is_held procs o.number)) (record { number = 0; kind = Nothing; offset = 0; flags = 0 }) (record { number = 1; kind = Outside; offset = 0; flags = 0 }) refl refl;
+    opens = all_two (λ (o : Open). IsTrue (is_held procs [] o.number)) (record { number = 0; kind = Nothing; offset = 0; flags = 0 }) (record { number = 1; kind = Outside; offset = 0; flags = 0 }) refl refl;
     objects = all_two (λ (o : ObjectRec). IsTrue (is_kept [] procs o.number)) (image_object pages) stack_object refl refl;
     pipes = λ _ _ lt. absurd (omega arith);
     pairs = λ _ _ lt. absurd (omega arith);

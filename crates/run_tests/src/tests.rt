@@ -1,3 +1,4 @@
+mod formats;
 mod refusals;
 mod runs;
 mod samples;

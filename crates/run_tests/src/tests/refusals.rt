@@ -199,7 +199,7 @@ const PATCHED: [(Wanted, Patched); 9] = [
 ];
 
 /// The bytes with this number in place of the eight at a place.
-fn patched(alloc: Global, image: &[u8], place: usize, number: u64) -> Result<Vec<u8>, Fail> {
+pub fn patched(alloc: Global, image: &[u8], place: usize, number: u64) -> Result<Vec<u8>, Fail> {
     let mut bytes = Vec::new(alloc);
     bytes.extend_from_slice(image.get(..place).unwrap_or(&[]))?;
     bytes.extend_from_slice(&number.to_le_bytes())?;

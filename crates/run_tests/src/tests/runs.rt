@@ -155,14 +155,14 @@ fn a_run_goes_on_from_its_checkpoint(rt: HostRuntime) -> Result<(), Fail> {
 }
 
 /// Jumps to itself, with bytes of 1 behind that fill so many pages.
-fn full_of_ones(alloc: Global, pages: usize) -> Result<Vec<u8>, Fail> {
+pub fn full_of_ones(alloc: Global, pages: usize) -> Result<Vec<u8>, Fail> {
     let mut bytes = image(alloc, LOOP, b"")?;
     bytes.resize(pages.saturating_mul(4096), 1)?;
     Ok(bytes)
 }
 
 /// One turn of one step.
-const STEP: &[&str] = &["run", "d", "o", "m", "--turns", "1", "--quantum", "1"];
+pub const STEP: &[&str] = &["run", "d", "o", "m", "--turns", "1", "--quantum", "1"];
 
 const FULL: Wanted = (
     End::DiskFull { need: 15, free: 14 },
@@ -183,8 +183,8 @@ fn fourteen_pages_and_their_record_are_too_many(rt: HostRuntime) -> Result<(), F
     Ok(())
 }
 
-/// Slot A of a checkpoint of thirteen pages: the text, epoch 1, meta block 15, and 1,008 bytes.
-const SLOT: &[u8] = b"AURSLOT1\x01\0\0\0\0\0\0\0\x0f\0\0\0\0\0\0\0\xf0\x03\0\0\0\0\0\0";
+/// Slot A of a checkpoint of thirteen pages: the text, epoch 1, meta block 15, and 728 bytes.
+const SLOT: &[u8] = b"AURSLOT2\x01\0\0\0\0\0\0\0\x0f\0\0\0\0\0\0\0\xd8\x02\0\0\0\0\0\0";
 
 #[test]
 fn thirteen_pages_and_their_record_fill_the_disk(rt: HostRuntime) -> Result<(), Fail> {
@@ -199,7 +199,7 @@ fn thirteen_pages_and_their_record_fill_the_disk(rt: HostRuntime) -> Result<(), 
         assert_eq!(rt; bytes.first(), Some(&1));
         assert_eq!(rt; bytes.get(8..40), Some(SLOT));
         assert_eq!(rt; bytes.get(8192..61_440), Some(program.as_slice()));
-        assert_eq!(rt; bytes.get(61_448..61_456), Some(b"AURMETA1".as_slice()));
+        assert_eq!(rt; bytes.get(61_448..61_456), Some(b"AURMETA2".as_slice()));
         assert_eq!(rt; bytes.get(4096), Some(&0));
     }
     Ok(())

@@ -32,7 +32,7 @@ fn block_at(image: &[u8], number: u64) -> Option<&[u8]> {
 /// The first meta block and the length of slot A's checkpoint, where the slot has the text and epoch 1.
 fn slot_a(image: &[u8]) -> Option<(u64, u64)> {
     let slot = block_at(image, 0)?;
-    let is_named = slot.get(8..16) == Some(b"AURSLOT1".as_slice())
+    let is_named = slot.get(8..16) == Some(b"AURSLOT2".as_slice())
         && number_at(slot, 16) == Some(1);
     if is_named {
         Some((number_at(slot, 24)?, number_at(slot, 32)?))
@@ -58,7 +58,7 @@ fn payloads(alloc: Global, image: &[u8], first: u64) -> Result<Vec<u8>, Fail> {
 /// The record of the group that the program leaves: its output, and no process.
 fn record_left(alloc: Global) -> Result<Vec<u8>, Fail> {
     let mut bytes = Vec::new(alloc);
-    bytes.extend_from_slice(b"AURMETA1")?;
+    bytes.extend_from_slice(b"AURMETA2")?;
     for number in [2u64, 2, 2, 0, 0, 0, 3] {
         bytes.extend_from_slice(&number.to_le_bytes())?;
     }

@@ -1,4 +1,4 @@
-use crate::{Beginning, Command, command_of};
+use command_words::{Beginning, Command, command_of};
 use dev_traits::Word;
 use run_defs::Limits;
 use std::alloc::Global;

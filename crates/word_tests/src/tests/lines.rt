@@ -1,4 +1,4 @@
-use crate::{End, say_line};
+use command_words::{End, say_line};
 use dev_traits::mem::MemSink;
 use std::test::Fail;
 
