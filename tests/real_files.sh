@@ -206,10 +206,12 @@ wait $!
 fault=$fault$(differs got hi_output; differs d done_disk)
 say_case 'OUT is a named pipe' "$fault"
 new_files
-(exec 4< pipe) &
-fault=$(ends 10 'sink fault' 'aurora: pipe: Broken pipe' "$PROGRAM" run d pipe m_p
-  ends 0 'done epoch 1 turns 0 output 3' '' "$PROGRAM" restore d fresh; differs fresh hi_output)
+# Its only reader has ended before the program begins.
+exec 3> >(:)
 wait $!
+fault=$(ends 10 'sink fault' 'aurora: /dev/fd/3: Broken pipe' "$PROGRAM" run d /dev/fd/3 m_p
+  ends 0 'done epoch 1 turns 0 output 3' '' "$PROGRAM" restore d fresh; differs fresh hi_output)
+exec 3>&-
 rm -f fresh
 say_case 'OUT is a pipe that nobody reads any more' "$fault"
 new_files
