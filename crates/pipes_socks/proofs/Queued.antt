@@ -1,6 +1,6 @@
 -- The messages of a pair are within their limits after each change.
 use Rattle.std.proofs.Common.{◌≡◌, ◌⊎◌, inl, inr, ℕ, ◌<◌, ◌≤◌, ◌==◌, Bool, true, false, not, List, [], ◌∷◌, length, drop, arith, length-append, length-drop}
-use Rattle.std.specs.Prelude.{All, nat_lt, nat_le, if◌then◌else◌}
+use Rattle.std.specs.Prelude.{nat_lt, nat_le, if◌then◌else◌}
 use Rattle.std.proofs.lemmas.Bool.{cases_Bool}
 use Rattle.std.proofs.lemmas.Bool.Decides.{nat_tests}
 use Rattle.std.proofs.lemmas.List.Elements.{All-nil, All-cons, All-append, All-drop}
@@ -8,7 +8,7 @@ use Rattle.pipes_socks.specs.declared.streams.Message.{Message}
 use Rattle.pipes_socks.specs.declared.answers.Sending.{Sending}
 use Rattle.pipes_socks.specs.declared.answers.Sending.TheVariants as sendings
 use Rattle.pipes_socks.specs.declared.streams.Pair.{Pair}
-use Rattle.pipes_socks.specs.Pairs.{MessageFits, QueueFits, PairFits, IsOrNoMemory, messages_to, with_messages, send_answer, sent_messages, left_messages}
+use Rattle.pipes_socks.specs.Pairs.{MessageFits, QueueFits, PairFits, IsOrNoMemory, messages_to, with_messages, send_answer, sent_messages}
 
 pub queue_none : QueueFits []
 unfolding QueueFits
@@ -51,10 +51,6 @@ queue_sent sendings.Broken waiting m peer some few is fits = fits
 queue_sent sendings.Waits waiting m peer some few is fits = fits
 queue_sent sendings.NoMemory waiting m peer some few is fits = fits
 
-pub queue_left : (waiting : List Message) (count : ℕ) → QueueFits waiting → QueueFits (left_messages waiting count)
+pub queue_left : (waiting : List Message) → QueueFits waiting → QueueFits (drop 1 waiting)
 unfolding QueueFits
-queue_left waiting count fits = by_test (count == 0)
-  where
-    by_test : (b : Bool) → (let left : List Message = if b then waiting else drop 1 waiting in (length left ≤ 16) × All MessageFits left)
-    by_test true = fits
-    by_test false = (omega (arith, length-drop 1 waiting, fits.0), All-drop MessageFits 1 waiting fits.1)
+queue_left waiting fits = (omega (arith, length-drop 1 waiting, fits.0), All-drop MessageFits 1 waiting fits.1)

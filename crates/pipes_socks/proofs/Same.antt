@@ -8,11 +8,11 @@ use Rattle.tables.proofs.Only.{none_from_find, on_first_no}
 use Rattle.pipes_socks.specs.declared.streams.Message.{Message}
 use Rattle.pipes_socks.specs.declared.answers.Sending.{Sending}
 use Rattle.pipes_socks.specs.declared.answers.Sending.TheVariants as sendings
-use Rattle.pipes_socks.specs.declared.answers.Pull.TheVariants as pulls
+use Rattle.pipes_socks.specs.declared.answers.Got.TheVariants as gots
 use Rattle.pipes_socks.specs.declared.streams.Pair.{Pair}
 use Rattle.pipes_socks.specs.declared.streams.Pipe.{Pipe}
 use Rattle.pipes_socks.specs.Pipes.{pipe_bytes, with_pipe_bytes}
-use Rattle.pipes_socks.specs.Pairs.{messages_to, with_messages, waiting_at, with_waiting, sent_messages, recv_answer, left_messages}
+use Rattle.pipes_socks.specs.Pairs.{messages_to, with_messages, waiting_at, with_waiting, sent_messages, recv_answer}
 use Rattle.pipes_socks.proofs.Held.{pipe}
 
 module _ {X : Type 0} (test : X → Bool) (f : X → X) where
@@ -65,15 +65,8 @@ nothing_sent sendings.Broken waiting bytes other = refl
 nothing_sent sendings.Waits waiting bytes other = refl
 nothing_sent sendings.NoMemory waiting bytes other = refl
 
--- a receiver waits only where no message does
-pub nothing_received : (waiting : List Message) (count : ℕ) (peer : Bool) → recv_answer waiting count peer ≡ pulls.Waits → left_messages waiting count ≡ waiting
-nothing_received [] count peer waits = by_test (count == 0)
-  where
-    by_test : (b : Bool) → (let l : List Message = if b then [] else [] in l) ≡ []
-    by_test true = refl
-    by_test false = refl
-nothing_received (message ∷ messages) count peer waits = by_test (cases_Bool (count == 0))
-  where
-    by_test : ((count == 0) ≡ true) ⊎ ((count == 0) ≡ false) → left_messages (message ∷ messages) count ≡ message ∷ messages
-    by_test (inl none) = rw none refl
-    by_test (inr some) = absurd (let e = rw some at waits in cc)
+-- without a message none is taken
+pub nothing_received : (waiting : List Message) (size : ℕ) (peer : Bool) → (recv_answer waiting size peer ≡ gots.Waits) ⊎ (recv_answer waiting size peer ≡ gots.End) → drop 1 waiting ≡ waiting
+nothing_received [] size peer none = refl
+nothing_received (message ∷ messages) size peer (inl waits) = absurd (let e = waits in cc)
+nothing_received (message ∷ messages) size peer (inr end) = absurd (let e = end in cc)

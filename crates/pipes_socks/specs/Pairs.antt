@@ -1,9 +1,9 @@
 -- The messages of socket pairs.
-use Rattle.std.specs.Prelude.{◌≡◌, ◌≤◌, ◌⊎◌, ℕ, All, Bool, not, nat_lt, nat_le, ◌==◌, min, if◌then◌else◌, List, [], ◌∷◌, ◌++◌, length, drop, Option, Some, None, slice_get}
+use Rattle.std.specs.Prelude.{◌≡◌, ◌≤◌, ◌⊎◌, ℕ, All, Bool, not, nat_lt, nat_le, ◌==◌, min, if◌then◌else◌, List, [], ◌∷◌, ◌++◌, length, Option, Some, None, slice_get}
 use Rattle.std.specs.Option.{option_map}
 use Rattle.tables.specs.Rising.{Rise, entry_of, added, removed, changed}
-use Rattle.pipes_socks.specs.declared.answers.Pull.{Pull}
-use Rattle.pipes_socks.specs.declared.answers.Pull.TheVariants as pulls
+use Rattle.pipes_socks.specs.declared.answers.Got.{Got}
+use Rattle.pipes_socks.specs.declared.answers.Got.TheVariants as gots
 use Rattle.pipes_socks.specs.declared.answers.Sending.{Sending}
 use Rattle.pipes_socks.specs.declared.answers.Sending.TheVariants as sendings
 use Rattle.pipes_socks.specs.declared.streams.Message.{Message}
@@ -43,22 +43,22 @@ sent_messages sendings.Broken waiting message = waiting
 sent_messages sendings.Waits waiting message = waiting
 sent_messages sendings.NoMemory waiting message = waiting
 
--- what comes of asking for the first of these messages, with room for a number of its bytes; the other end is there or not
-abbrev pub first_answer : List Message → ℕ → Bool → Pull
-first_answer [] count peer = if peer then pulls.Waits else pulls.Taken 0
-first_answer (message ∷ messages) count peer = pulls.Taken (min count (length message.bytes))
+-- what comes of receiving the first of these messages in a buffer of a length, where the other end is there or not
+abbrev pub recv_answer : List Message → ℕ → Bool → Got
+recv_answer [] size peer = if peer then gots.Waits else gots.End
+recv_answer (message ∷ messages) size peer =
+    gots.Message (min size (length message.bytes)) (nat_lt size (length message.bytes)) message.opens
 
-abbrev pub recv_answer : List Message → ℕ → Bool → Pull
-recv_answer waiting count peer = if count == 0 then pulls.Taken 0 else first_answer waiting count peer
+-- how many bytes were given
+abbrev pub got_count : Got → ℕ
+got_count (gots.Message taken cut opens) = taken
+got_count gots.End = 0
+got_count gots.Waits = 0
 
 -- the first message's bytes, where one waits
 abbrev pub first_bytes : List Message → List ℕ
 first_bytes [] = []
 first_bytes (message ∷ messages) = message.bytes
-
--- the messages that wait afterwards: what did not fit of the first one is lost
-abbrev pub left_messages : List Message → ℕ → List Message
-left_messages waiting count = if count == 0 then waiting else drop 1 waiting
 
 -- a message has 1 to 4,096 bytes, and carries at most 8 descriptions
 unfoldable pub MessageFits : Message → Type 0

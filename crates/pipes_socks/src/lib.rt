@@ -9,12 +9,14 @@
 mod answers;
 mod channel;
 mod keyed;
+mod open_list;
 mod pairs;
 mod pipes;
 mod queues;
 mod streams;
 
-pub use answers::{Pull, Push, Sending, TableRefused};
+pub use answers::{Got, Pull, Push, Sending, TableRefused};
+pub use open_list::OpenList;
 pub use pairs::PairTable;
 pub use pipes::PipeTable;
 pub use streams::{Message, Pair, Pipe};

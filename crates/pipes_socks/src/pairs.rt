@@ -1,13 +1,14 @@
-ghost use Rattle.std.specs.Prelude.{◌≡◌, ◌≢◌, ◌↔◌, ◌≤◌, ◌<◌, ◌-◌, ◌+◌, [], ◌++◌, length, take, drop, None, Err, IsSome, IfOk, OnOk, OnErr, IsOk};
+ghost use Rattle.std.specs.Prelude.{◌≡◌, ◌≢◌, ◌↔◌, ◌⊎◌, ◌≤◌, ◌<◌, ◌-◌, ◌+◌, [], ◌++◌, length, take, drop, None, Err, IsSome, IfOk, OnOk, OnErr, IsOk};
 ghost use Rattle.std.specs.Option.{option_map};
 ghost use Rattle.tables.specs.Rising.{Rise, IsPlaceOf};
-ghost use Rattle.pipes_socks.specs.declared.answers.Pull.TheVariants.{Waits};
+ghost use Rattle.pipes_socks.specs.declared.answers.Got.TheVariants.{Waits, End};
 ghost use Rattle.pipes_socks.specs.declared.answers.Sending.TheVariants.{Sent};
 ghost use Rattle.pipes_socks.specs.declared.answers.TableRefused.TheVariants.{Full};
-ghost use Rattle.pipes_socks.specs.Pipes.{pulled_count};
-ghost use Rattle.pipes_socks.specs.Pairs.{ArePairs, messages_to, send_answer, IsOrNoMemory, sent_messages, recv_answer, first_bytes, left_messages, pair_of, waiting_at, with_waiting, with_pair, without_pair, first_length, first_carried};
+ghost use Rattle.pipes_socks.specs.Carried.{carried_by};
+ghost use Rattle.pipes_socks.specs.Pairs.{ArePairs, messages_to, send_answer, IsOrNoMemory, sent_messages, recv_answer, got_count, first_bytes, pair_of, waiting_at, with_waiting, with_pair, without_pair, first_length, first_carried};
 
-use crate::answers::{Pull, Sending, TableRefused};
+use crate::answers::{Got, Sending, TableRefused};
+use crate::open_list::OpenList;
 use crate::queues::Queues;
 use crate::streams::Pair;
 use lists::{NoMemory, Seq};
@@ -183,36 +184,40 @@ impl PairTable {
     }
 
     /// Receives the first message that waits at an end; what the buffer doesn't hold of it is lost.
-    pub fn recv(&mut self, number: u64, end: u8, into: &mut [u8], peer: bool) -> Pull
+    /// No memory is taken.
+    pub fn recv(&mut self, number: u64, end: u8, into: &mut [u8], peer: bool) -> Got
         requires there { IsSome (pair_of self.old.entries number) }
         requires end { end < 2 }
         ensures answer { let waiting = waiting_at self.old.entries number end in
             result ≡ recv_answer waiting (length into.old) peer }
         ensures pairs { let waiting = waiting_at self.old.entries number end in
-            self.new.entries ≡ with_waiting self.old.entries number end
-            (left_messages waiting (length into.old)) }
-        ensures same { result ≡ Waits → self.new.entries ≡ self.old.entries }
+            self.new.entries ≡ with_waiting self.old.entries number end (drop 1 waiting) }
+        ensures same { (result ≡ Waits) ⊎ (result ≡ End)
+            → self.new.entries ≡ self.old.entries }
         ensures given { let waiting = waiting_at self.old.entries number end in
-            into.new ≡ take (pulled_count result) (first_bytes waiting)
-            ++ drop (pulled_count result) into.old }
+            into.new ≡ take (got_count result) (first_bytes waiting)
+            ++ drop (got_count result) into.old }
         ensures spare { self.new.spare ≡ self.old.spare }
     {
         let place = place_of(&self.pairs, number);
         self.pairs[place].recv(end, into, peer)
     }
 
-    /// Drops the messages that wait at an end.
-    pub fn empty(&mut self, number: u64, end: u8)
+    /// Drops the messages that wait at an end, and gives what they carried, in their order. No
+    /// memory is taken.
+    pub fn empty(&mut self, number: u64, end: u8) -> OpenList
         requires there { IsSome (pair_of self.old.entries number) }
         requires end { end < 2 }
+        ensures carried { result ≡ carried_by (waiting_at self.old.entries number end) }
         ensures pairs { self.new.entries ≡ with_waiting self.old.entries number end [] }
         ensures spare { self.new.spare ≡ self.old.spare }
     {
         let place = place_of(&self.pairs, number);
-        self.pairs[place].empty(end);
+        self.pairs[place].empty(end)
     }
 
-    /// Takes a pair out of the table.
+    /// Takes a pair out of the table, with the messages that still wait in it. What these carry is
+    /// told nobody, so both ends are emptied before.
     pub fn drop_pair(&mut self, number: u64)
         requires { IsSome (pair_of self.old.entries number) }
         ensures pairs { self.new.entries ≡ without_pair self.old.entries number }

@@ -1,17 +1,20 @@
-ghost use Rattle.std.specs.Prelude.{◌≡◌, ◌≤◌, ◌<◌, ◌-◌, ◌+◌, [], ◌∷◌, ◌++◌, length, take, drop, IfOk, min};
-ghost use Rattle.pipes_socks.specs.Pipes.{pulled_count};
+ghost use Rattle.std.specs.Prelude.{◌≡◌, ◌≤◌, ◌<◌, ◌-◌, ◌+◌, [], ◌∷◌, ◌++◌, length, take, drop, IfOk, min, true};
+ghost use Rattle.pipes_socks.specs.Carried.{carried_by};
 ghost use Rattle.pipes_socks.specs.declared.answers.Sending.TheVariants.{Sent};
-ghost use Rattle.pipes_socks.specs.Pairs.{messages_to, with_messages, send_answer, IsOrNoMemory, sent_messages, recv_answer, first_bytes, left_messages};
+ghost use Rattle.pipes_socks.specs.Pairs.{messages_to, with_messages, send_answer, IsOrNoMemory, sent_messages, recv_answer, got_count, first_bytes};
 
-use crate::answers::{Pull, Sending};
+use crate::answers::{Got, Sending};
+use crate::open_list::OpenList;
 use crate::streams::{Message, Pair};
 use lists::{NoMemory, Seq};
 use std::alloc::Global;
 use std::marker::Model;
+use std::mem;
 
 /// A pair whose messages can be taken from the front.
 #[derive(Drop)]
 pub struct Queues {
+    alloc: Global,
     number: u64,
     to0: Vec<Message>,
     to1: Vec<Message>,
@@ -108,21 +111,40 @@ fn give(message: &[u8], into: &mut [u8]) -> u64
     count as u64
 }
 
-// Takes the first message that waits.
-fn fetch(waiting: &mut Vec<Message>, into: &mut [u8], peer: bool) -> Pull
-    ensures answer { result ≡ recv_answer waiting.old.items (length into.old) peer }
-    ensures messages { waiting.new.items ≡ left_messages waiting.old.items (length into.old) }
-    ensures given { into.new ≡ take (pulled_count result) (first_bytes waiting.old.items)
-        ++ drop (pulled_count result) into.old }
+// Gives what a buffer holds of a message, and what it carried.
+fn hand_over(alloc: Global, message: Message, into: &mut [u8]) -> Got
+    ensures answer { result ≡ recv_answer (message ∷ []) (length into.old) true }
+    ensures given { into.new ≡ take (got_count result) message.bytes
+        ++ drop (got_count result) into.old }
 {
-    if into.is_empty() {
-        return Pull::Taken(0);
+    let Message { bytes, opens } = message;
+    let taken = give(bytes.as_slice(), into);
+    Got::Message {
+        taken,
+        cut: into.len() < bytes.len(),
+        opens: OpenList::of_message(alloc, opens),
     }
+}
+
+// Takes the first message that waits.
+fn fetch(alloc: Global, waiting: &mut Vec<Message>, into: &mut [u8], peer: bool) -> Got
+    ensures answer { result ≡ recv_answer waiting.old.items (length into.old) peer }
+    ensures messages { waiting.new.items ≡ drop 1 waiting.old.items }
+    ensures given { into.new ≡ take (got_count result) (first_bytes waiting.old.items)
+        ++ drop (got_count result) into.old }
+{
     if waiting.is_empty() {
-        return if peer { Pull::Waits } else { Pull::Taken(0) };
+        return if peer { Got::Waits } else { Got::End };
     }
-    let message = waiting.remove(0);
-    Pull::Taken(give(message.bytes.as_slice(), into))
+    hand_over(alloc, waiting.remove(0), into)
+}
+
+// Takes all messages that wait, and gives what they carried.
+fn clear(alloc: Global, waiting: &mut Vec<Message>) -> OpenList
+    ensures carried { result ≡ carried_by waiting.old.items }
+    ensures none { waiting.new.items ≡ [] }
+{
+    OpenList::of_messages(alloc, mem::replace(waiting, Vec::new(alloc)))
 }
 
 impl Queues {
@@ -131,6 +153,7 @@ impl Queues {
         ensures { result ≡ record { number = number; to0 = []; to1 = [] } }
     {
         Queues {
+            alloc,
             number,
             to0: Vec::new(alloc),
             to1: Vec::new(alloc),
@@ -144,6 +167,7 @@ impl Queues {
         let to0 = copy_messages(alloc, pair.to0.as_slice())?;
         let to1 = copy_messages(alloc, pair.to1.as_slice())?;
         Ok(Queues {
+            alloc,
             number: pair.number,
             to0: to0.into_vec(),
             to1: to1.into_vec(),
@@ -203,29 +227,29 @@ impl Queues {
     }
 
     /// Takes the first message that waits at an end.
-    pub fn recv(&mut self, end: u8, into: &mut [u8], peer: bool) -> Pull
+    pub fn recv(&mut self, end: u8, into: &mut [u8], peer: bool) -> Got
         ensures answer { result ≡ recv_answer (messages_to self.old end) (length into.old) peer }
-        ensures pair { let waiting = messages_to self.old end in
-            self.new ≡ with_messages self.old end (left_messages waiting (length into.old)) }
+        ensures pair { self.new ≡ with_messages self.old end (drop 1 (messages_to self.old end)) }
         ensures given { let waiting = messages_to self.old end in
-            into.new ≡ take (pulled_count result) (first_bytes waiting)
-            ++ drop (pulled_count result) into.old }
+            into.new ≡ take (got_count result) (first_bytes waiting)
+            ++ drop (got_count result) into.old }
     {
         if end == 0 {
-            fetch(&mut self.to0, into, peer)
+            fetch(self.alloc, &mut self.to0, into, peer)
         } else {
-            fetch(&mut self.to1, into, peer)
+            fetch(self.alloc, &mut self.to1, into, peer)
         }
     }
 
-    /// Drops the messages that wait at an end.
-    pub fn empty(&mut self, end: u8)
-        ensures { self.new ≡ with_messages self.old end [] }
+    /// Drops the messages that wait at an end, and gives what they carried.
+    pub fn empty(&mut self, end: u8) -> OpenList
+        ensures carried { result ≡ carried_by (messages_to self.old end) }
+        ensures pair { self.new ≡ with_messages self.old end [] }
     {
         if end == 0 {
-            self.to0.clear();
+            clear(self.alloc, &mut self.to0)
         } else {
-            self.to1.clear();
+            clear(self.alloc, &mut self.to1)
         }
     }
 }

@@ -33,6 +33,12 @@ fn set_offset(opens: &mut Opens, number: u64, offset: u64) {
     }
 }
 
+fn hold(opens: &mut Opens, number: u64) {
+    if opens.owners(number) < u64::MAX {
+        opens.hold(number);
+    }
+}
+
 const FILE: OpenKind = OpenKind::File { object: 7 };
 
 // A file at descriptor 3 of a process, as description 5.
@@ -106,6 +112,33 @@ fn a_child_owns_what_its_parent_does(rt: HostRuntime) -> Result<(), Fail> {
     );
     assert_eq!(rt; fds.close(3, &mut opens), Ok(Closed::Kept));
     assert_eq!(rt; child.close(3, &mut opens), Ok(Closed::Last { kind: FILE }));
+    Ok(())
+}
+
+#[test]
+fn a_hold_alone_keeps_a_description(rt: HostRuntime) -> Result<(), Fail> {
+    let (mut fds, mut opens) = one_file(rt.alloc())?;
+    hold(&mut opens, 5);
+    hold(&mut opens, 5);
+    assert_eq!(rt; opens.owners(5), 3);
+    assert_eq!(rt; fds.close(3, &mut opens), Ok(Closed::Kept));
+    assert_eq!(rt; opens.release(5), Closed::Kept);
+    assert_eq!(rt; opens.get(5).map(|open| open.kind), Some(FILE));
+    assert!(rt; install(&mut fds, 0, 5, &mut opens));
+    assert_eq!(rt; fds.close(0, &mut opens), Ok(Closed::Kept));
+    assert_eq!(rt; opens.release(5), Closed::Last { kind: FILE });
+    assert_eq!(rt; (opens.owners(5), opens.len()), (0, 0));
+    Ok(())
+}
+
+#[test]
+fn a_hold_that_ends_leaves_the_descriptors(rt: HostRuntime) -> Result<(), Fail> {
+    let (mut fds, mut opens) = one_file(rt.alloc())?;
+    hold(&mut opens, 6);
+    assert_eq!(rt; (opens.owners(6), opens.release(6)), (0, Closed::Kept));
+    hold(&mut opens, 5);
+    assert_eq!(rt; (opens.release(5), opens.owners(5)), (Closed::Kept, 1));
+    assert_eq!(rt; fds.close(3, &mut opens), Ok(Closed::Last { kind: FILE }));
     Ok(())
 }
 
