@@ -30,9 +30,13 @@ since_of s pid = elim (find (λ e. e.0 == pid) s.since) [ None ↦ 0 | Some e �
 unfoldable pub is_durable : Standing → ℕ → Bool
 is_durable s pid = nat_le (since_of s pid) s.acked
 
--- A barrier covers all steps so far; of the group it changes the output alone.
+-- Of the group a barrier changes the output alone.
+abbrev pub group_barrier : Group → Group
+group_barrier g = with_out g (out_after_barrier g.frame.out)
+
+-- It covers all steps so far.
 abbrev pub barrier : State → ℕ → State
-barrier s epoch = record { group = with_out s.group (out_after_barrier s.group.frame.out); standing = record s.standing { last = epoch } }
+barrier s epoch = record { group = group_barrier s.group; standing = record s.standing { last = epoch } }
 
 abbrev pub acknowledged : State → ℕ → State
 acknowledged s epoch = record s { standing = record s.standing { acked = epoch } }

@@ -1,4 +1,5 @@
-//! The numbers of the system calls, as Linux has them on RISC-V, and those of their errors, as it has them and POSIX names them.
+//! The numbers of the system calls, which are those of Linux on RISC-V for the calls of the same names, and the numbers of
+//! their errors, as Linux has them and POSIX names them.
 
 /// The number of dup.
 pub const DUP: u64 = 23;
