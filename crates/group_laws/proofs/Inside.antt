@@ -22,7 +22,7 @@ found_has P t (x ∷ xs) y all e = by_test (t x) refl (found_has P t xs y (λ k 
     by_test false is rest e = rest e
 
 -- the bytes under an object's number are its pages
-object_bytes : (objects : List ObjectRec) (memory : List (ℕ × List ℕ)) (n k : ℕ) (d : ObjectRec) → AllZip IsObject objects memory → AllPairs (λ (a b : ObjectRec). a.number < b.number) objects → k < length objects → (get_or objects k d).number ≡ n → length (bytes_in memory n) ≡ 4096 * (get_or objects k d).pages
+pub object_bytes : (objects : List ObjectRec) (memory : List (ℕ × List ℕ)) (n k : ℕ) (d : ObjectRec) → AllZip IsObject objects memory → AllPairs (λ (a b : ObjectRec). a.number < b.number) objects → k < length objects → (get_or objects k d).number ≡ n → length (bytes_in memory n) ≡ 4096 * (get_or objects k d).pages
 object_bytes [] memory n k d zip rise lt is = absurd (omega (arith, lt))
 object_bytes (o ∷ os) [] n k d zip rise lt is = absurd zip
 object_bytes (o ∷ os) (e ∷ es) n zero d zip rise lt is =

@@ -41,4 +41,9 @@ pub mod BarrierLaws
 pub mod RiseLaws
 pub mod StandingLaws
 pub mod ServedLaws
+pub mod Replies
+pub mod ObjectBytes
 pub mod OthersStay
+pub mod OthersBytes
+pub mod OthersPrivate
+pub mod Elsewhere

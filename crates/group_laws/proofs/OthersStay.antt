@@ -1,363 +1,226 @@
 -- What a step of one process leaves of the others.
-use Rattle.std.proofs.Common.{◌≡◌, ◌⊎◌, inl, inr, ℕ, ◌+◌, ◌*◌, ◌/◌, ◌%◌, ◌^◌, ◌-◌, ◌==◌, ◌&&◌, ◌||◌, Bool, true, false, List, [], ◌∷◌, ◌++◌, Option, Some, None, refl, ap, sym, ◌∙◌, subst, arith}
-use Rattle.std.specs.Prelude.{if◌then◌else◌, map, nat_le, nat_lt, not, length, All, Any}
-use Rattle.std.specs.List.{find, filter_map, cons_option, list_any, range_with_len}
-use Rattle.std.proofs.lemmas.List.Folds.{list_any-append, list_any-from_Any}
-use Rattle.std.proofs.lemmas.Bool.{eqb-true, eq-eqb, false≢true}
-use Rattle.group_defs.specs.Objects.{is_of_file}
-use Rattle.group_defs.specs.Valid.{GroupIsValid, TargetIsThere}
-use Rattle.group_files.specs.declared.named_files.FileRec.{FileRec}
-use Rattle.group_laws.proofs.Inside.{found_has}
-use Rattle.group_laws.proofs.OffsetLaws.{open_found}
-use Rattle.pipes_socks.specs.declared.streams.Pair.{Pair}
-use Rattle.pipes_socks.specs.declared.streams.Pipe.{Pipe}
-use Rattle.rv64_isa.specs.declared.regs.Regs.{Regs}
-use Rattle.rv64_isa.specs.Instruction.{Effect, steps, calls, traps, list_of}
-use Rattle.rv64_isa.specs.Memory.{Write}
-use Rattle.rv64_isa.specs.Numbers.{wrapped}
-use Rattle.rv64_isa.specs.Registers.{a0, answered, call_number}
-use Rattle.group_defs.specs.declared.frame.Proc.{Proc}
-use Rattle.group_defs.specs.declared.frame.Out.{Out}
+use Rattle.std.proofs.Common.{Bool, List, None, Option, Some, [], ap, false, inl, inr, not, refl, subst, sym, true, ℕ, ⊎_elim, ◌&&◌, ◌-◌, ◌==◌, ◌^◌, ◌∙◌, ◌∷◌, ◌≡◌, ◌⊎◌}
+use Rattle.std.proofs.lemmas.Bool.{and_parts, eq-eqb, eqb-true}
+use Rattle.std.specs.List.{cons_option, filter_map}
+use Rattle.std.specs.Prelude.{filter, find, if◌then◌else◌}
+use Rattle.address_maps.specs.Cut.{cut}
 use Rattle.address_maps.specs.declared.maps.Mapping.{Mapping}
-use Rattle.group_defs.specs.Calls.{Reply, waits, refuses, answers, ends, fd_of}
-use Rattle.group_defs.specs.declared.calls.TheConstants.{EBADF, EFAULT, EFBIG, EMSGSIZE, ENOSYS, EPIPE, WRITE}
-use Rattle.address_maps.specs.Mappings.{has}
-use Rattle.group_defs.specs.Cells.{object_place, sight}
-use Rattle.descriptors.specs.declared.opens.Open.{Open}
-use Rattle.descriptors.specs.declared.opens.OpenKind.{OpenKind}
-use Rattle.descriptors.specs.declared.opens.OpenKind.TheVariants as kinds
-use Rattle.group_defs.specs.Changes.{open_at}
-use Rattle.group_defs.specs.Family.{exit, ended, after_end, ended_process}
+use Rattle.group_defs.specs.Calls.{Reply, answers, ends, refuses, waits}
+use Rattle.group_defs.specs.Cells.{sight}
+use Rattle.group_defs.specs.Changes.{on_caller, with_break, with_fds, with_maps, with_object, with_pairs}
+use Rattle.group_defs.specs.Family.{after_end, ended, ended_process, is_child, reaped, without_proc}
+use Rattle.group_defs.specs.Fork.{Copy, child_of, copies_from, forked, to_copy}
+use Rattle.group_defs.specs.Group.{Group, is_runner, is_running, regs_of, runner, with_regs}
 use Rattle.group_defs.specs.Held.{settled}
-use Rattle.group_defs.specs.Group.{Group, is_running, is_runner, runner, regs_of, with_regs}
+use Rattle.group_defs.specs.MapCalls.{grown, mapped, new_mapping, shrunk}
+use Rattle.group_defs.specs.Step.{after_effect, after_reply, effect_in, group_step, reply_in}
+use Rattle.group_defs.specs.declared.frame.Proc.{Proc}
+use Rattle.group_laws.proofs.ForkLists.{found_first}
+use Rattle.group_laws.proofs.Inside.{found_has}
+use Rattle.group_laws.proofs.Lists.{any_weaker, found_is}
+use Rattle.group_laws.proofs.NewFileLaws.{unmapped}
+use Rattle.group_laws.proofs.OpenLaws.{one_more}
+use Rattle.group_laws.proofs.Replies.{Leaves, Opened, Plain, clone_leaves, openat_leaves, reply_holds, write_reply}
+use Rattle.group_laws.proofs.ReplyLaws.{found_pid}
+use Rattle.group_laws.proofs.SettledLaws.{rise_unique}
+use Rattle.rv64_isa.specs.Instruction.{Effect, calls, steps, traps}
+use Rattle.rv64_isa.specs.Memory.{stored}
+use Rattle.rv64_isa.specs.Registers.{answered, call_number}
 use Rattle.tables.specs.Lists.{on_first}
-use Rattle.group_defs.specs.Objects.{maps_object}
-use Rattle.group_defs.specs.Step.{effect_in, reply_in, after_reply, after_effect, group_step}
-use Rattle.group_defs.specs.Pages.{is_among, page_at, pages_at, pages_between, pages_of_file_write, pages_of_writes, pages_written_to, touched_beside, touched_by_effect, touched_by_reply, touched_with_step}
-use Rattle.group_defs.specs.ReadWrite.{write, write_kind, write_open, write_outside, put_outside}
-use Rattle.group_defs.specs.FileCalls.{access_of, put_file, write_file, write_place}
-use Rattle.group_defs.specs.Held.{has_reader}
-use Rattle.group_defs.specs.Output.{room}
-use Rattle.group_defs.specs.PairCalls.{has_peer, post, posted}
-use Rattle.group_defs.specs.PipeCalls.{pipe_room, push, write_pipe}
-use Rattle.pipes_socks.specs.Pairs.{waiting_at}
-use Rattle.pipes_socks.specs.Pipes.{waits_for_room}
-use Rattle.group_laws.proofs.ServedLaws.{served_reply}
-use Rattle.rv64_isa.specs.Memory.{Cells, readable}
-use Rattle.rv64_isa.specs.Registers.{a1, a2}
+use Rattle.tables.specs.Rising.{Rise, added, changed, removed}
 
--- the parent stays, or was the process of this pid, and is none now
-abbrev pub IsParentAfter : ℕ → ℕ → ℕ → Type 0
-IsParentAfter pid before after = (after ≡ before) ⊎ ((after ≡ 0) × (before ≡ pid))
+-- the same process, but for a parent of this pid, who may be none then
+abbrev pub IsSame : ℕ → Proc → Proc → Type 0
+IsSame pid before after = (after ≡ record before { parent = after.parent }) × ((after.parent ≡ before.parent) ⊎ ((after.parent ≡ 0) × (before.parent ≡ pid)))
 
--- the same process, but for a parent of this pid
-abbrev pub Same : ℕ → Option Proc → Option Proc → Type 0
-Same pid None o = Unit {0}
-Same pid (Some x) None = ⊥
-Same pid (Some x) (Some y) = (y ≡ record x { parent = y.parent }) × IsParentAfter pid x.parent y.parent
+abbrev pub IsKept : ℕ → ℕ → Proc → Group → Type 0
+IsKept pid other x h = (y : Proc) × (find (is_runner other) h.frame.procs ≡ Some y) × IsSame pid x y
 
-same_itself : (pid : ℕ) (o : Option Proc) → Same pid o o
-same_itself pid None = tt
-same_itself pid (Some x) = (refl, inl refl)
-
-and_right : (a b : Bool) → (a && b) ≡ true → b ≡ true
-and_right true b e = e
-and_right false b e = absurd (cc)
-
--- who runs under another pid isn't who runs under this one
-no_runner : (mine other : ℕ) (y : Proc) → (mine == other) ≡ false → is_runner mine y ≡ true → is_runner other y ≡ false
-no_runner mine other y differ hit = by_pid (is_running y) (y.pid == other) refl
+-- who runs under one pid doesn't run under another
+not_both : (mine other : ℕ) (y : Proc) → (mine == other) ≡ false → is_runner other y ≡ true → is_runner mine y ≡ false
+not_both mine other y differ hit = by_test (is_runner mine y) refl
   where
-    by_pid : (r t : Bool) → (y.pid == other) ≡ t → (r && t) ≡ false
-    by_pid false t e = refl
-    by_pid true false e = refl
-    by_pid true true e = let mine_is : (y.pid == mine) ≡ true = and_right (is_running y) (y.pid == mine) hit in absurd (grind (arith, e, mine_is, differ))
+    by_test : (b : Bool) → is_runner mine y ≡ b → b ≡ false
+    by_test false e = refl
+    by_test true e =
+        let its : y.pid ≡ other = eqb-true y.pid other (and_parts (is_running y) (y.pid == other) hit).1 in
+        let also : y.pid ≡ mine = eqb-true y.pid mine (and_parts (is_running y) (y.pid == mine) e).1 in
+        let same : (mine == other) ≡ true = eq-eqb mine other (sym also ∙ its) in
+        absurd (cc)
 
-continued_same : (mine other : ℕ) (r : Regs) (procs : List Proc) → (mine == other) ≡ false → find (is_runner other) (on_first (is_runner mine) (with_regs r) procs) ≡ find (is_runner other) procs
-unfolding on_first
-continued_same mine other r [] differ = refl
-continued_same mine other r (y ∷ ys) differ = by_test (is_runner mine y) refl (continued_same mine other r ys differ)
+-- what passes another test is found as it was where one is changed
+module _ {X : Type 0} (t u : X → Bool) (f : X → X) (kept : (y : X) → u (f y) ≡ u y) (apart : (y : X) → u y ≡ true → t y ≡ false) where
+  pub found_other : (xs : List X) → find u (on_first t f xs) ≡ find u xs
+  unfolding on_first
+  found_other [] = refl
+  found_other (y ∷ ys) = by_test (t y) (u y) refl refl (found_other ys)
+    where
+      by_test : (b c : Bool) → t y ≡ b → u y ≡ c → find u (on_first t f ys) ≡ find u ys → find u (if b then f y ∷ ys else y ∷ on_first t f ys) ≡ (if c then Some y else find u ys)
+      by_test true true hit here ih = let miss = apart y here in absurd (cc)
+      by_test true false hit here ih = ap (λ (b : Bool). if b then Some (f y) else find u ys) (kept y ∙ here)
+      by_test false c hit here ih = ap (λ (b : Bool). if b then Some y else find u (on_first t f ys)) here ∙ ap (λ (o : Option X). if c then Some y else o) ih
+
+-- where some others go, it is found too
+pub kept_other : {X : Type 0} (t keep : X → Bool) (xs : List X) (x : X) → find t xs ≡ Some x → keep x ≡ true → find t (filter keep xs) ≡ Some x
+kept_other t keep [] x e k = absurd (cc)
+kept_other t keep (y ∷ ys) x e k = by_test (t y) (keep y) refl refl e (λ later. kept_other t keep ys x later k)
   where
-    by_test : (t : Bool) → is_runner mine y ≡ t → find (is_runner other) (on_first (is_runner mine) (with_regs r) ys) ≡ find (is_runner other) ys → find (is_runner other) (if t then with_regs r y ∷ ys else y ∷ on_first (is_runner mine) (with_regs r) ys) ≡ (if is_runner other y then Some y else find (is_runner other) ys)
-    by_test true hit rest = let miss : is_runner other y ≡ false = no_runner mine other y differ hit in ap (λ (t : Bool). if t then Some (with_regs r y) else find (is_runner other) ys) miss ∙ sym (ap (λ (t : Bool). if t then Some y else find (is_runner other) ys) miss)
-    by_test false hit rest = ap (λ (o : Option Proc). if is_runner other y then Some y else o) rest
+    by_test : (b c : Bool) → t y ≡ b → keep y ≡ c → (if b then Some y else find t ys) ≡ Some x → (find t ys ≡ Some x → find t (filter keep ys) ≡ Some x) → find t (if c then y ∷ filter keep ys else filter keep ys) ≡ Some x
+    by_test true true hit stays e ih = ap (λ (b : Bool). if b then Some y else find t (filter keep ys)) hit ∙ e
+    by_test true false hit goes e ih = let same : y ≡ x = cc in let over : keep y ≡ true = ap keep same ∙ k in absurd (cc)
+    by_test false true miss stays e ih = ap (λ (b : Bool). if b then Some y else find t (filter keep ys)) miss ∙ ih e
+    by_test false false miss goes e ih = ih e
 
 -- the end of a process
-kept_head : (p : Proc) (status : ℕ) (other : ℕ) (y : Proc) (rest : List Proc) → (p.pid == other) ≡ false → is_runner other y ≡ true → Same p.pid (Some y) (find (is_runner other) (cons_option (after_end p status y) rest))
-kept_head p status other y rest differ hit = by_mine (is_runner p.pid y) refl
-  where
-    runs : (b c : Bool) → (b && c) ≡ true → b ≡ true
-    runs true c e = refl
-    runs false c e = e
+module _ (p : Proc) (status other : ℕ) (differ : (p.pid == other) ≡ false) where
+  after_of : (y : Proc) → is_runner other y ≡ true → (z : Proc) × (after_end p status y ≡ Some z) × (is_runner other z ≡ true) × IsSame p.pid y z
+  after_of y hit = by_child (y.parent == p.pid) refl
+    where
+      miss : is_runner p.pid y ≡ false
+      miss = not_both p.pid other y differ hit
 
-    running : is_running y ≡ true
-    running = runs (is_running y) (y.pid == other) hit
+      runs : is_running y ≡ true
+      runs = (and_parts (is_running y) (y.pid == other) hit).0
 
-    orphan : is_runner other (record y { parent = 0 }) ≡ true
-    orphan = hit
+      by_child : (b : Bool) → (y.parent == p.pid) ≡ b → (z : Proc) × (after_end p status y ≡ Some z) × (is_runner other z ≡ true) × IsSame p.pid y z
+      by_child true its = (record y { parent = 0 }, rw (miss, its, runs) refl, hit, (refl, inr (refl, eqb-true y.parent p.pid its)))
+      by_child false its = (y, rw (miss, its) refl, hit, (refl, inl refl))
 
-    by_child : (t : Bool) → (y.parent == p.pid) ≡ t → Same p.pid (Some y) (find (is_runner other) (cons_option (if t then (if is_running y then Some (record y { parent = 0 }) else None) else Some y) rest))
-    by_child true child = let P : Bool → Type 0 = λ b. Same p.pid (Some y) (find (is_runner other) (cons_option (if b then Some (record y { parent = 0 }) else None) rest)) in
-        let Q : Bool → Type 0 = λ b. Same p.pid (Some y) (if b then Some (record y { parent = 0 }) else find (is_runner other) rest) in
-        let its : y.parent ≡ p.pid = grind (arith, child) in
-        subst P (sym running) (subst Q (sym orphan) (refl, inr (refl, its)))
-    by_child false child = let Q : Bool → Type 0 = λ b. Same p.pid (Some y) (if b then Some y else find (is_runner other) rest) in subst Q (sym hit) (refl, inl refl)
+  skipped : (y : Proc) (rest : List Proc) → is_runner other y ≡ false → find (is_runner other) (cons_option (after_end p status y) rest) ≡ find (is_runner other) rest
+  skipped y rest miss = by_cases (is_runner p.pid y) (p.parent == 0) (y.parent == p.pid) (is_running y)
+    where
+      skips : (z : Proc) → is_runner other z ≡ false → find (is_runner other) (z ∷ rest) ≡ find (is_runner other) rest
+      skips z none = ap (λ (t : Bool). if t then Some z else find (is_runner other) rest) none
 
-    by_mine : (t : Bool) → is_runner p.pid y ≡ t → Same p.pid (Some y) (find (is_runner other) (cons_option (if t then (if p.parent == 0 then None else Some (ended_process p status)) else if y.parent == p.pid then (if is_running y then Some (record y { parent = 0 }) else None) else Some y) rest))
-    by_mine true mine = let miss : is_runner other y ≡ false = no_runner p.pid other y differ mine in absurd (cc)
-    by_mine false mine = by_child (y.parent == p.pid) refl
+      by_cases : (a b c d : Bool) → find (is_runner other) (cons_option (if a then (if b then None else Some (ended_process p status)) else if c then (if d then Some (record y { parent = 0 }) else None) else Some y) rest) ≡ find (is_runner other) rest
+      by_cases true true c d = refl
+      by_cases true false c d = refl
+      by_cases false b true true = skips (record y { parent = 0 }) miss
+      by_cases false b true false = refl
+      by_cases false b false d = skips y miss
 
-skipped_head : (p : Proc) (status : ℕ) (other : ℕ) (y : Proc) (rest : List Proc) → is_runner other y ≡ false → find (is_runner other) (cons_option (after_end p status y) rest) ≡ find (is_runner other) rest
-skipped_head p status other y rest miss = by_cases (is_runner p.pid y) (p.parent == 0) (y.parent == p.pid) (is_running y)
-  where
-    skips : find (is_runner other) (y ∷ rest) ≡ find (is_runner other) rest
-    skips = ap (λ (t : Bool). if t then Some y else find (is_runner other) rest) miss
+  pub ended_other : (procs : List Proc) (x : Proc) → find (is_runner other) procs ≡ Some x → (y : Proc) × (find (is_runner other) (filter_map (after_end p status) procs) ≡ Some y) × IsSame p.pid x y
+  ended_other [] x e = absurd (cc)
+  ended_other (y ∷ ys) x e = by_test (is_runner other y) refl e (ended_other ys x)
+    where
+      by_test : (b : Bool) → is_runner other y ≡ b → (if b then Some y else find (is_runner other) ys) ≡ Some x → (find (is_runner other) ys ≡ Some x → (z : Proc) × (find (is_runner other) (filter_map (after_end p status) ys) ≡ Some z) × IsSame p.pid x z)
+          → (z : Proc) × (find (is_runner other) (cons_option (after_end p status y) (filter_map (after_end p status) ys)) ≡ Some z) × IsSame p.pid x z
+      by_test true hit e ih =
+          let a = after_of y hit in
+          let same : y ≡ x = cc in
+          let rest : List Proc = filter_map (after_end p status) ys in
+          (a.0, ap (λ (o : Option Proc). find (is_runner other) (cons_option o rest)) a.1 ∙ ap (λ (t : Bool). if t then Some a.0 else find (is_runner other) rest) a.2, subst (λ v. IsSame p.pid v a.0) same a.3)
+      by_test false miss e ih = let later = ih e in (later.0, skipped y (filter_map (after_end p status) ys) miss ∙ later.1, later.2)
 
-    orphan_skips : find (is_runner other) (record y { parent = 0 } ∷ rest) ≡ find (is_runner other) rest
-    orphan_skips = let orphan : is_runner other (record y { parent = 0 }) ≡ false = miss in ap (λ (t : Bool). if t then Some (record y { parent = 0 }) else find (is_runner other) rest) orphan
+-- Each call leaves another process as it is.
+module _ (durable : Bool) (g : Group) (p : Proc) (other : ℕ) (x : Proc) (differ : (p.pid == other) ≡ false) (rise : Rise (λ q. q.pid) g.frame.procs) (there : find (is_runner other) g.frame.procs ≡ Some x) where
+  abbrev Runs : Group → Type 0
+  Runs h = find (is_runner other) h.frame.procs ≡ Some x
 
-    by_cases : (a b c d : Bool) → find (is_runner other) (cons_option (if a then (if b then None else Some (ended_process p status)) else if c then (if d then Some (record y { parent = 0 }) else None) else Some y) rest) ≡ find (is_runner other) rest
-    by_cases true true c d = refl
-    by_cases true false c d = refl
-    by_cases false b true true = orphan_skips
-    by_cases false b true false = refl
-    by_cases false b false d = skips
+  by_caller : (f : Proc → Proc) → ((y : Proc) → is_runner other (f y) ≡ is_runner other y) → (h : Group) → Runs h → Runs (on_caller h p f)
+  by_caller f kept h e = found_other (is_runner p.pid) (is_runner other) f kept (λ y hit. not_both p.pid other y differ hit) h.frame.procs ∙ e
 
-ended_same : (p : Proc) (status other : ℕ) (procs : List Proc) → (p.pid == other) ≡ false → Same p.pid (find (is_runner other) procs) (find (is_runner other) (filter_map (after_end p status) procs))
-ended_same p status other [] differ = tt
-ended_same p status other (y ∷ ys) differ = by_test (is_runner other y) refl (ended_same p status other ys differ)
-  where
-    by_test : (t : Bool) → is_runner other y ≡ t → Same p.pid (find (is_runner other) ys) (find (is_runner other) (filter_map (after_end p status) ys)) → Same p.pid (if t then Some y else find (is_runner other) ys) (find (is_runner other) (cons_option (after_end p status y) (filter_map (after_end p status) ys)))
-    by_test true hit rest = kept_head p status other y (filter_map (after_end p status) ys) differ hit
-    by_test false miss rest =
-        let P : Option Proc → Type 0 = λ o. Same p.pid (find (is_runner other) ys) o in
-        subst P (sym (skipped_head p status other y (filter_map (after_end p status) ys) miss)) rest
+  by_settling : (h : Group) → Runs h → Runs (settled h)
+  unfolding settled
+  by_settling h e = e
 
--- a step
-same_as : (pid : ℕ) (a b : Option Proc) → b ≡ a → Same pid a b
-same_as pid a b e = let P : Option Proc → Type 0 = λ o. Same pid a o in subst P (sym e) (same_itself pid a)
+  -- a child that waited to be removed is another one
+  without_child : (wanted : ℕ) (q : Proc) → find (λ y. is_child p.pid wanted y && not (is_running y)) g.frame.procs ≡ Some q → Runs (without_proc g q.pid)
+  without_child wanted q e = kept_other (is_runner other) (λ y. not (y.pid == q.pid)) g.frame.procs x there (by_test (x.pid == q.pid) refl)
+    where
+      its : Unit {0} × (is_runner other x ≡ true)
+      its = found_has (λ y. Unit {0}) (is_runner other) g.frame.procs x (λ k d lt. tt) there
 
--- the group that a reply leaves has the processes of the one before
-unfoldable pub KeepsProcs : Group → Reply Group → Type 0
-KeepsProcs g waits = Unit {0}
-KeepsProcs g (refuses errno) = Unit {0}
-KeepsProcs g (answers value h writes) = h.frame.procs ≡ g.frame.procs
-KeepsProcs g (ends status) = Unit {0}
+      stopped : not (is_running q) ≡ true
+      stopped = (and_parts (is_child p.pid wanted q) (not (is_running q)) (found_has (λ y. Unit {0}) (λ y. is_child p.pid wanted y && not (is_running y)) g.frame.procs q (λ k d lt. tt) e).1).1
 
-module _ (g : Group) where
-  either : (b : Bool) (r s : Reply Group) → KeepsProcs g r → KeepsProcs g s → KeepsProcs g (if b then r else s)
-  either true r s k l = k
-  either false r s k l = l
+      by_test : (b : Bool) → (x.pid == q.pid) ≡ b → not b ≡ true
+      by_test false miss = refl
+      by_test true hit =
+          let one : x ≡ q = rise_unique (λ y. y.pid) g.frame.procs x q rise
+          (any_weaker (λ y. (y ≡ x) × (is_runner other y ≡ true)) (λ y. y ≡ x) g.frame.procs (λ y both. both.0) (found_is (is_runner other) g.frame.procs x there))
+          (any_weaker (λ y. (y ≡ q) × ((is_child p.pid wanted y && not (is_running y)) ≡ true)) (λ y. y ≡ q) g.frame.procs (λ y both. both.0) (found_is (λ y. is_child p.pid wanted y && not (is_running y)) g.frame.procs q e))
+          (eqb-true x.pid q.pid hit) in
+          let runs : is_running q ≡ true = ap is_running (sym one) ∙ (and_parts (is_running x) (x.pid == other) its.1).0 in
+          let over : not true ≡ true = ap not (sym runs) ∙ stopped in
+          absurd (cc)
 
-  waiting : KeepsProcs g waits
-  unfolding KeepsProcs
-  waiting = tt
+  runs_mapped : (list : List Mapping) (m : Mapping) → Runs (mapped g p list m)
+  runs_mapped list m = by_caller (λ q. record q { maps = added (λ n. n.start) list m }) (λ y. refl) (with_object g m.pages) there
 
-  refused : (errno : ℕ) → KeepsProcs g (refuses errno)
-  unfolding KeepsProcs
-  refused errno = tt
+  pub plain_runs : Plain g p Runs
+  plain_runs =
+      let fds : (list : List (ℕ × ℕ)) (h : Group) → Runs h → Runs (with_fds h p list) = λ list. by_caller (λ q. record q { fds = list }) (λ y. refl) in
+      let maps : (list : List Mapping) (h : Group) → Runs h → Runs (with_maps h p list) = λ list. by_caller (λ q. record q { maps = list }) (λ y. refl) in
+      let break : (brk : ℕ) (h : Group) → Runs h → Runs (with_break h p brk) = λ brk. by_caller (λ q. record q { brk = brk }) (λ y. refl) in
+      record {
+        same = there;
+        fds = λ list. fds list g there;
+        closed = λ list. by_settling (with_fds g p list) (fds list g there);
+        offsets = λ number offset. there;
+        pipes = λ pipes. there;
+        pairs = λ pairs. there;
+        dropped = λ pairs. by_settling (with_pairs g pairs) there;
+        received = λ pairs list. fds list g there;
+        new_pipe = λ list. fds list g there;
+        new_pair = λ list. fds list g there;
+        break = λ brk. break brk g there;
+        grown = λ start pages brk. break brk (mapped g p p.maps (new_mapping g start pages 3 false)) (runs_mapped p.maps (new_mapping g start pages 3 false));
+        shrunk = λ start pages brk. by_settling (with_break (with_maps g p (cut p.maps start pages)) p brk) (break brk (with_maps g p (cut p.maps start pages)) (maps (cut p.maps start pages) g there));
+        unmapped = λ start pages. by_settling (with_maps g p (cut p.maps start pages)) (maps (cut p.maps start pages) g there);
+        one_more = λ start pages prot shared. runs_mapped p.maps (new_mapping g start pages prot shared);
+        instead = λ start pages prot shared. by_settling (mapped g p (cut p.maps start pages) (new_mapping g start pages prot shared)) (runs_mapped (cut p.maps start pages) (new_mapping g start pages prot shared));
+        reaped = without_child;
+      }
 
-  over : (status : ℕ) → KeepsProcs g (ends status)
-  unfolding KeepsProcs
-  over status = tt
+  pub opened_runs : Opened g p Runs
+  opened_runs =
+      let fds : (list : List (ℕ × ℕ)) → Runs (with_fds g p list) = λ list. by_caller (λ q. record q { fds = list }) (λ y. refl) g there in
+      record { old = λ f flags list is. fds list; cleared = λ f flags list is. fds list; made = λ name flags list. fds list }
 
-  same : (value : ℕ) (h : Group) (writes : List Write) → h.frame.procs ≡ g.frame.procs → KeepsProcs g (answers value h writes)
-  unfolding KeepsProcs
-  same value h writes e = e
+  pub forked_runs : (copies : List Copy) → Runs (forked g p copies)
+  unfolding forked
+  forked_runs copies = found_first (is_runner other) g.frame.procs (child_of g.frame.next.pid copies p ∷ []) x there
 
-  outside_keeps : (bytes : Option (List ℕ)) → KeepsProcs g (put_outside g bytes)
-  outside_keeps None = refused EFAULT
-  outside_keeps (Some bytes) = same _ _ [] refl
+  -- what each reply and each step leaves of it
+  reply_runs : (number : ℕ) → Leaves Runs (reply_in durable g p number)
+  reply_runs =
+      reply_holds durable g p Runs plain_runs (λ n r. Leaves Runs r) (λ n r leaves. leaves) (openat_leaves g p Runs opened_runs (sight g p) (regs_of p))
+      (write_reply (Leaves Runs) g (sight g p) tt (λ errno. tt) there (λ bytes few. there) (λ value pipes. there) (λ value pairs. there) p (regs_of p) (λ o at object is bytes within. there))
+      (clone_leaves g p Runs (λ can. forked_runs (copies_from g.frame.next.object (to_copy g.frame p))) (regs_of p))
 
-  file_keeps : (o : Open) (object place : ℕ) (bytes : Option (List ℕ)) → KeepsProcs g (put_file g o object place bytes)
-  file_keeps o object place None = refused EFAULT
-  file_keeps o object place (Some bytes) = same _ _ [] refl
+  over : (status : ℕ) → IsKept p.pid other x (ended g p status)
+  unfolding ended settled
+  over status = ended_other p status other differ g.frame.procs x there
 
-  pipe_keeps : (pipe : ℕ) (bytes : Option (List ℕ)) → KeepsProcs g (push g pipe bytes)
-  pipe_keeps pipe None = refused EFAULT
-  pipe_keeps pipe (Some bytes) = same _ _ [] refl
+  replied : (r : Reply Group) → Leaves Runs r → IsKept p.pid other x (after_reply g p r)
+  replied waits leaves = (x, there, (refl, inl refl))
+  replied (refuses errno) leaves = (x, by_caller (with_regs (answered (regs_of p) (2 ^ 64 - errno))) (λ y. refl) g there, (refl, inl refl))
+  replied (answers value h writes) leaves = (x, by_caller (with_regs (answered (regs_of p) value)) (λ y. refl) h leaves, (refl, inl refl))
+  replied (ends status) leaves = over status
 
-  message_keeps : (pair end : ℕ) (carried : List ℕ) (bytes : Option (List ℕ)) → KeepsProcs g (posted g pair end carried bytes)
-  message_keeps pair end carried None = refused EFAULT
-  message_keeps pair end carried (Some bytes) = same _ _ [] refl
+  pub effect_stays : (e : Effect) → IsKept p.pid other x (after_effect durable g p e)
+  effect_stays (steps r stored) = (x, by_caller (with_regs r) (λ y. refl) g there, (refl, inl refl))
+  effect_stays calls = replied (reply_in durable g p (call_number (regs_of p))) (reply_runs (call_number (regs_of p)))
+  effect_stays (traps status) = over status
 
-  to_outside : (cells : Cells) (buf n : ℕ) → KeepsProcs g (write_outside g cells buf n)
-  to_outside cells buf n = either (n == 0) _ _ (same 0 g [] refl) (either (room g.frame.out == 0) _ _ waiting (outside_keeps _))
-
-  to_file : (cells : Cells) (o : Open) (object buf n : ℕ) → KeepsProcs g (write_file g cells o object buf n)
-  to_file cells o object buf n = either (access_of o.flags == 0) _ _ (refused EBADF) (either (n == 0) _ _ (same 0 g [] refl) (either (nat_le 1048576 (write_place g o object)) _ _ (refused EFBIG) (file_keeps o object _ _)))
-
-  to_pipe : (cells : Cells) (pipe buf n : ℕ) → KeepsProcs g (write_pipe g cells pipe buf n)
-  to_pipe cells pipe buf n = either (n == 0) _ _ (same 0 g [] refl) (either (not (has_reader g.frame.opens pipe)) _ _ (refused EPIPE) (either (waits_for_room n (pipe_room g pipe)) _ _ waiting (pipe_keeps pipe _)))
-
-  to_pair : (cells : Cells) (pair end buf n : ℕ) → KeepsProcs g (post g cells pair end buf n [])
-  to_pair cells pair end buf n = either (n == 0) _ _ (same 0 g [] refl) (either (nat_lt 4096 n) _ _ (refused EMSGSIZE) (either (not (has_peer g pair end)) _ _ (refused EPIPE) (either (nat_le 16 (length (waiting_at g.frame.pairs pair (1 - end)))) _ _ waiting (message_keeps pair (1 - end) [] _))))
-
-  kind_keeps : (cells : Cells) (o : Open) (buf n : ℕ) (kind : OpenKind) → KeepsProcs g (write_kind g cells o buf n kind)
-  kind_keeps cells o buf n kinds.Nothing = refused EBADF
-  kind_keeps cells o buf n kinds.Outside = to_outside cells buf n
-  kind_keeps cells o buf n (kinds.File object) = to_file cells o object buf n
-  kind_keeps cells o buf n (kinds.PipeRead pipe) = refused EBADF
-  kind_keeps cells o buf n (kinds.PipeWrite pipe) = to_pipe cells pipe buf n
-  kind_keeps cells o buf n (kinds.PairEnd pair end) = to_pair cells pair end buf n
-
-  open_keeps : (cells : Cells) (r : Regs) (o : Option Open) → KeepsProcs g (write_open g cells r o)
-  open_keeps cells r None = refused EBADF
-  open_keeps cells r (Some o) = kind_keeps cells o (a1 r) (a2 r) o.kind
-
-write_keeps : (g : Group) (p : Proc) → KeepsProcs g (write g p (sight g p) (regs_of p))
-write_keeps g p = open_keeps g (sight g p) (regs_of p) (open_at p.fds g.frame.opens (fd_of (regs_of p)))
-
-module _ (durable : Bool) (g : Group) (p : Proc) (other : ℕ) (differ : (p.pid == other) ≡ false) where
-  goes_on : (h : Group) (r : Regs) → h.frame.procs ≡ on_first (is_runner p.pid) (with_regs r) g.frame.procs → Same p.pid (runner g other) (runner h other)
-  unfolding runner
-  goes_on h r e = same_as p.pid _ _ (ap (find (is_runner other)) e ∙ continued_same p.pid other r g.frame.procs differ)
-
-  is_over : (status : ℕ) → Same p.pid (runner g other) (runner (ended g p status) other)
-  unfolding runner ended settled
-  is_over status = ended_same p status other g.frame.procs differ
-
-  replied : (r : Reply Group) → KeepsProcs g r → Same p.pid (runner g other) (runner (after_reply g p r) other)
-  unfolding KeepsProcs
-  replied waits k = same_itself p.pid (runner g other)
-  replied (refuses errno) k = goes_on (after_reply g p (refuses errno)) (answered (regs_of p) (2 ^ 64 - errno)) refl
-  replied (answers value h writes) k = goes_on (after_reply g p (answers value h writes)) (answered (regs_of p) value) (ap (on_first (is_runner p.pid) (with_regs (answered (regs_of p) value))) k)
-  replied (ends status) k = is_over status
-
-  by_number : (number : ℕ) → Same p.pid (runner g other) (runner (after_reply g p (reply_in durable g p number)) other)
-  by_number number = replied (reply_in durable g p number) (served_reply (λ n r. KeepsProcs g r) durable g p (write_keeps g p) (over g _) (over g _) (λ n none. refused g ENOSYS) number)
-
-  effects : (e : Effect) → Same p.pid (runner g other) (runner (after_effect durable g p e) other)
-  effects (steps r stored) = goes_on (after_effect durable g p (steps r stored)) r refl
-  effects calls = by_number (call_number (regs_of p))
-  effects (traps status) = is_over status
-
-pid_of : (pid : ℕ) (procs : List Proc) (p : Proc) → find (is_runner pid) procs ≡ Some p → (p.pid == pid) ≡ true
-pid_of pid [] p e = absurd (cc)
-pid_of pid (y ∷ ys) p e = by_test (is_runner pid y) refl (pid_of pid ys p) e
-  where
-    by_test : (t : Bool) → is_runner pid y ≡ t → (find (is_runner pid) ys ≡ Some p → (p.pid == pid) ≡ true) → (if t then Some y else find (is_runner pid) ys) ≡ Some p → (p.pid == pid) ≡ true
-    by_test true hit rest e = let same : y ≡ p = cc in let P : Proc → Type 0 = λ x. (x.pid == pid) ≡ true in subst P same (and_right (is_running y) (y.pid == pid) hit)
-    by_test false hit rest e = rest e
-
-its_pid_of : (g : Group) (pid : ℕ) (p : Proc) → runner g pid ≡ Some p → (p.pid == pid) ≡ true
-unfolding runner
-its_pid_of g pid p is = pid_of pid g.frame.procs p is
-
-step_same : (durable : Bool) (g : Group) (pid other : ℕ) → (pid == other) ≡ false → Same pid (runner g other) (runner (group_step durable g pid) other)
+-- A step of another process than p, who runs under its pid.
+pub step_is : (durable : Bool) (g : Group) (pid : ℕ) → (runner g pid ≡ None → group_step durable g pid ≡ g) × ((p : Proc) → runner g pid ≡ Some p → group_step durable g pid ≡ after_effect durable g p (effect_in g p))
 unfolding group_step
-step_same durable g pid other differ = found (runner g pid) refl
+step_is durable g pid = (λ none. ap result none, λ p is. ap result is)
   where
     result : Option Proc → Group
     result o = elim o [ None ↦ g | Some p ↦ after_effect durable g p (effect_in g p) ]
 
-    found : (o : Option Proc) → runner g pid ≡ o → Same pid (runner g other) (runner (result o) other)
-    found None is = same_itself pid (runner g other)
-    found (Some p) is =
-        let mine : p.pid ≡ pid = grind (arith, its_pid is) in
-        let P : ℕ → Type 0 = λ n. Same n (runner g other) (runner (after_effect durable g p (effect_in g p)) other) in
-        subst P mine (effects durable g p other (differs (p.pid == pid) refl (its_pid is)) (effect_in g p))
-      where
-        its_pid : runner g pid ≡ Some p → (p.pid == pid) ≡ true
-        its_pid is = its_pid_of g pid p is
-
-        differs : (t : Bool) → (p.pid == pid) ≡ t → (p.pid == pid) ≡ true → (p.pid == other) ≡ false
-        differs t e hit = let same : p.pid ≡ pid = grind (arith, hit) in ap (λ n. n == other) same ∙ differ
-
 -- A step leaves every other running process as it is, but for a parent that it ended.
-pub others_stay : (durable : Bool) (g : Group) (pid other : ℕ) (x : Proc) → (pid == other) ≡ false → runner g other ≡ Some x
+pub others_stay : (durable : Bool) (g : Group) (pid other : ℕ) (x : Proc) → Rise (λ q. q.pid) g.frame.procs → (pid == other) ≡ false → runner g other ≡ Some x
     → (y : Proc) × (runner (group_step durable g pid) other ≡ Some y) × (y ≡ record x { parent = y.parent }) × ((y.parent ≡ x.parent) ⊎ ((y.parent ≡ 0) × (x.parent ≡ pid)))
-others_stay durable g pid other x differ is = by_found (runner (group_step durable g pid) other) refl (let P : Option Proc → Type 0 = λ o. Same pid o (runner (group_step durable g pid) other) in subst P is (step_same durable g pid other differ))
+unfolding runner
+others_stay durable g pid other x rise differ there = let kept = by_runner (find (is_runner pid) g.frame.procs) refl in (kept.0, kept.1, kept.2.0, kept.2.1)
   where
-    by_found : (o : Option Proc) → runner (group_step durable g pid) other ≡ o → Same pid (Some x) (runner (group_step durable g pid) other)
-        → (y : Proc) × (runner (group_step durable g pid) other ≡ Some y) × (y ≡ record x { parent = y.parent }) × ((y.parent ≡ x.parent) ⊎ ((y.parent ≡ 0) × (x.parent ≡ pid)))
-    by_found None e s = absurd (let P : Option Proc → Type 0 = λ o. Same pid (Some x) o in subst P e s)
-    by_found (Some y) e s =
-        let same : Same pid (Some x) (Some y) = (let P : Option Proc → Type 0 = λ o. Same pid (Some x) o in subst P e s) in
-        (y, e, same.0, same.1)
-
-not_mapped : (object page a : ℕ) (maps all : List Mapping) → list_any (λ m. m.object == object) maps ≡ false → is_among (elim (find (has a) maps) [ None ↦ [] | Some m ↦ (m.object, object_place m a / 4096) ∷ [] ]) (object, page) ≡ false
-not_mapped object page a [] all none = refl
-not_mapped object page a (m ∷ ms) all none = by_test (has a m) none (λ e. not_mapped object page a ms all e)
-  where
-    none_left : (b c : Bool) → (b || c) ≡ false → (b ≡ false) × (c ≡ false)
-    none_left true c e = absurd (cc)
-    none_left false c e = (refl, e)
-
-    by_test : (t : Bool) → ((m.object == object) || list_any (λ m. m.object == object) ms) ≡ false → (list_any (λ m. m.object == object) ms ≡ false → is_among (elim (find (has a) ms) [ None ↦ [] | Some m ↦ (m.object, object_place m a / 4096) ∷ [] ]) (object, page) ≡ false) → is_among (elim (if t then Some m else find (has a) ms) [ None ↦ [] | Some m ↦ (m.object, object_place m a / 4096) ∷ [] ]) (object, page) ≡ false
-    by_test true e rest = ap (λ b. (b && (object_place m a / 4096 == page)) || false) (none_left (m.object == object) (list_any (λ m. m.object == object) ms) e).0
-    by_test false e rest = rest (none_left (m.object == object) (list_any (λ m. m.object == object) ms) e).1
-
-joined : (xs ys : List (ℕ × ℕ)) (page : ℕ × ℕ) → is_among xs page ≡ false → is_among ys page ≡ false → is_among (xs ++ ys) page ≡ false
-joined xs ys page e f = list_any-append (λ p. (p.0 == page.0) && (p.1 == page.1)) xs ys ∙ ap (λ b. b || is_among ys page) e ∙ f
-
-bytes_elsewhere : (object page a : ℕ) (maps : List Mapping) (bytes : List ℕ) → list_any (λ m. m.object == object) maps ≡ false → is_among (pages_at maps a bytes) (object, page) ≡ false
-unfolding pages_at
-bytes_elsewhere object page a maps [] none = refl
-bytes_elsewhere object page a maps (b ∷ bs) none = joined (page_at maps (wrapped a)) (pages_at maps (a + 1) bs) (object, page) (not_mapped object page (wrapped a) maps maps none) (bytes_elsewhere object page (a + 1) maps bs none)
-
-writes_elsewhere : (object page : ℕ) (maps : List Mapping) (writes : List Write) → list_any (λ m. m.object == object) maps ≡ false → is_among (pages_of_writes maps writes) (object, page) ≡ false
-writes_elsewhere object page maps [] none = refl
-writes_elsewhere object page maps (w ∷ ws) none = joined (pages_at maps w.address w.bytes) (pages_of_writes maps ws) (object, page) (bytes_elsewhere object page w.address maps w.bytes none) (writes_elsewhere object page maps ws none)
-
-not_there : (object other page : ℕ) (pages : List ℕ) → (other == object) ≡ false → is_among (map (λ k. (other, k)) pages) (object, page) ≡ false
-not_there object other page [] differ = refl
-not_there object other page (k ∷ ks) differ = ap (λ b. (b && (k == page)) || is_among (map (λ j. (other, j)) ks) (object, page)) differ ∙ not_there object other page ks differ
-
-between_elsewhere : (object other page from to : ℕ) → (other == object) ≡ false → is_among (pages_between other from to) (object, page) ≡ false
-between_elsewhere object other page from to differ = by_test (nat_lt from to)
-  where
-    pages : List ℕ
-    pages = range_with_len (from / 4096) ((to - 1) / 4096 + 1 - from / 4096)
-
-    by_test : (b : Bool) → is_among (if b then map (λ k. (other, k)) pages else []) (object, page) ≡ false
-    by_test true = not_there object other page pages differ
-    by_test false = refl
-
--- what a description is open at is there, so a file's object is a file's
-file_object : (files : List FileRec) (object other : ℕ) → Any (λ f. f.object ≡ other) files → is_of_file files object ≡ false → (other == object) ≡ false
-unfolding is_of_file
-file_object files object other there none = by_test (other == object) refl
-  where
-    by_test : (b : Bool) → (other == object) ≡ b → b ≡ false
-    by_test false e = refl
-    by_test true e = let same : other ≡ object = eqb-true other object e in
-        let found : list_any (λ f. f.object == object) files ≡ true = list_any-from_Any (λ f. f.object == object) files (there.0, there.1, there.2, there.3, eq-eqb (there.1).object object (there.4 ∙ same)) in
-        absurd (false≢true (sym none ∙ found))
-
-open_has : (P : Open → Type 0) (fds : List (ℕ × ℕ)) (opens : List Open) (fd : ℕ) (o : Open) → All P opens → open_at fds opens fd ≡ Some o → P o
-open_has P fds opens fd o all e = (found_has P (λ x. x.number == o.number) opens o all (open_found fds opens fd o e)).0
-
-module _ (g : Group) (p : Proc) (object page : ℕ) (valid : GroupIsValid g) (unmapped : list_any (λ m. m.object == object) p.maps ≡ false) (no_file : is_of_file g.frame.files object ≡ false) where
-  of_kind : (o : Open) (count : ℕ) (kind : OpenKind) → TargetIsThere g.frame.files g.frame.pipes g.frame.pairs kind → is_among (pages_of_file_write g o count kind) (object, page) ≡ false
-  of_kind o count kinds.Nothing there = refl
-  of_kind o count kinds.Outside there = refl
-  of_kind o count (kinds.File other) there = between_elsewhere object other page (write_place g o other) (write_place g o other + count) (file_object g.frame.files object other there no_file)
-  of_kind o count (kinds.PipeRead pipe) there = refl
-  of_kind o count (kinds.PipeWrite pipe) there = refl
-  of_kind o count (kinds.PairEnd pair end) there = refl
-
-  of_open : (count fd : ℕ) (x : Option Open) → open_at p.fds g.frame.opens fd ≡ x → is_among (pages_written_to g count x) (object, page) ≡ false
-  of_open count fd None e = refl
-  of_open count fd (Some o) e = of_kind o count o.kind (open_has (λ y. TargetIsThere g.frame.files g.frame.pipes g.frame.pairs y.kind) p.fds g.frame.opens fd o valid.sound.frame.opens.targets e)
-
-  of_write : (so_far : List (ℕ × ℕ)) (r : Reply Group) → is_among (touched_by_reply g p so_far WRITE r) (object, page) ≡ false
-  unfolding touched_beside
-  of_write so_far waits = refl
-  of_write so_far (refuses errno) = refl
-  of_write so_far (answers value h writes) = joined (pages_of_writes p.maps writes) (touched_beside g p so_far WRITE value h) (object, page) (writes_elsewhere object page p.maps writes unmapped) (of_open value (fd_of (regs_of p)) (open_at p.fds g.frame.opens (fd_of (regs_of p))) refl)
-  of_write so_far (ends status) = refl
-
-  by_effect : (durable : Bool) (so_far : List (ℕ × ℕ)) (e : Effect) → is_among (touched_by_effect durable g p so_far e) (object, page) ≡ false
-  by_effect durable so_far (steps r stored) = writes_elsewhere object page p.maps (list_of stored) unmapped
-  by_effect durable so_far calls = served_reply (λ n r. is_among (touched_by_reply g p so_far n r) (object, page) ≡ false) durable g p (of_write so_far (write g p (sight g p) (regs_of p))) refl refl (λ n none. refl) (call_number (regs_of p))
-  by_effect durable so_far (traps status) = refl
-
--- A step touches no page of an object that its process doesn't map and that isn't a file's.
-pub elsewhere_untouched : (durable : Bool) (g : Group) (pid : ℕ) (p : Proc) (so_far : List (ℕ × ℕ)) (object page : ℕ) → GroupIsValid g → runner g pid ≡ Some p → maps_object object p ≡ false → is_of_file g.frame.files object ≡ false
-    → is_among so_far (object, page) ≡ false → is_among (touched_with_step durable g pid so_far) (object, page) ≡ false
-unfolding touched_with_step maps_object
-elsewhere_untouched durable g pid p so_far object page valid is none no_file before =
-    joined so_far _ (object, page) before
-    (let P : Option Proc → Type 0 = λ o. is_among (elim o [ None ↦ [] | Some q ↦ touched_by_effect durable g q so_far (effect_in g q) ]) (object, page) ≡ false in
-    subst P (sym is) (by_effect g p object page valid none no_file durable so_far (effect_in g p)))
+    by_runner : (o : Option Proc) → find (is_runner pid) g.frame.procs ≡ o → IsKept pid other x (group_step durable g pid)
+    by_runner None e = subst (IsKept pid other x) (sym ((step_is durable g pid).0 e)) (x, there, (refl, inl refl))
+    by_runner (Some p) e =
+        let mine : p.pid ≡ pid = found_pid g.frame.procs pid p e in
+        let kept = effect_stays durable g p other x (ap (λ n. n == other) mine ∙ differ) rise there (effect_in g p) in
+        subst (IsKept pid other x) (sym ((step_is durable g pid).1 p e)) (kept.0, kept.1, (kept.2.0, ⊎_elim (λ same. inl same) (λ both. inr (both.0, both.1 ∙ mine)) kept.2.1))

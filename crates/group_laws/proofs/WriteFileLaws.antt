@@ -53,6 +53,23 @@ zip_there (r ∷ rs) (y ∷ ys) n zip any e = by_test (cases_Bool (y.0 == n)) (a
     by_test (inr miss) (inl same) e more = eqb-false y.0 n miss (zip.0.0 ∙ same)
     by_test (inr miss) (inr rest) e more = more rest (rw miss at e)
 
+-- bytes put into a list leave zeros behind them and behind its end
+pub zeros_behind : (old : List ℕ) (len place : ℕ) (bytes : List ℕ) → place + length bytes ≤ length old → All (λ (b : ℕ). b ≡ 0) (drop len old) → All (λ (b : ℕ). b ≡ 0) (drop (max len (place + length bytes)) (put old place bytes))
+unfolding put
+zeros_behind old len place bytes within old_zeros =
+    let end : ℕ = place + length bytes in
+    let more : ℕ = max len end - end in
+    let front : List ℕ = take place old ++ bytes in
+    let rest : List ℕ = drop end old in
+    let size : length front ≡ end = (let a = length-append (take place old) bytes in let b = length-take place old in omega (arith, a, b, within)) in
+    let whole : put old place bytes ≡ front ++ rest = sym (append_assoc (take place old) bytes rest) in
+    let sum : max len end ≡ end + more = omega arith in
+    let behind : drop (max len end) (put old place bytes) ≡ drop (max len end) old = ap (λ k. drop k (put old place bytes)) sum ∙ sym (drop-drop more end (put old place bytes)) ∙ ap (drop more) (ap (drop end) whole ∙ drop_at front rest end size) ∙ drop-drop more end old ∙ ap (λ k. drop k old) (sym sum) in
+    let back : ℕ = max len end - len in
+    let sum' : max len end ≡ len + back = omega arith in
+    let tail : drop (max len end) old ≡ drop back (drop len old) = ap (λ k. drop k old) sum' ∙ sym (drop-drop back len old) in
+    subst (All (λ (b : ℕ). b ≡ 0)) (sym (behind ∙ tail)) (All-drop (λ (b : ℕ). b ≡ 0) back (drop len old) old_zeros)
+
 module _ (g : Group) (p : Proc) (found : find (is_runner p.pid) g.frame.procs ≡ Some p) (v : GroupIsValid g) (o : Open) (object : ℕ) (at : entry_of (λ x. x.number) g.frame.opens o.number ≡ Some o) (is : o.kind ≡ kinds.File object) where
   -- the object of a file has 1,048,576 bytes, with zeros behind the file's end
   abbrev old : List ℕ
@@ -100,22 +117,6 @@ module _ (g : Group) (p : Proc) (found : find (is_runner p.pid) g.frame.procs �
           passes : {X : Type 0} (key : X → ℕ) (xs : List X) (x : X) → find (λ y. key y == object) xs ≡ Some x → key x ≡ object
           passes key xs x e = entry_has key xs object x e
 
-  zeros_after : (place : ℕ) (bytes : List ℕ) → place + length bytes ≤ length old → All (λ (b : ℕ). b ≡ 0) (drop (max len (place + length bytes)) (put old place bytes))
-  unfolding put
-  zeros_after place bytes within =
-      let end : ℕ = place + length bytes in
-      let more : ℕ = max len end - end in
-      let front : List ℕ = take place old ++ bytes in
-      let rest : List ℕ = drop end old in
-      let size : length front ≡ end = (let a = length-append (take place old) bytes in let b = length-take place old in omega (arith, a, b, within)) in
-      let whole : put old place bytes ≡ front ++ rest = sym (append_assoc (take place old) bytes rest) in
-      let sum : max len end ≡ end + more = omega arith in
-      let behind : drop (max len end) (put old place bytes) ≡ drop (max len end) old = ap (λ k. drop k (put old place bytes)) sum ∙ sym (drop-drop more end (put old place bytes)) ∙ ap (drop more) (ap (drop end) whole ∙ drop_at front rest end size) ∙ drop-drop more end old ∙ ap (λ k. drop k old) (sym sum) in
-      let back : ℕ = max len end - len in
-      let sum' : max len end ≡ len + back = omega arith in
-      let tail : drop (max len end) old ≡ drop back (drop len old) = ap (λ k. drop k old) sum' ∙ sym (drop-drop back len old) in
-      subst (All (λ (b : ℕ). b ≡ 0)) (sym (behind ∙ tail)) (All-drop (λ (b : ℕ). b ≡ 0) back (drop len old) old_zeros)
-
   put_keeps : (place : ℕ) (bytes : List ℕ) → place + length bytes ≤ 1048576 → AreBytes bytes → ReplyKeeps p (put_file g o object place (Some bytes))
   unfolding put
   put_keeps place bytes within fit =
@@ -124,7 +125,7 @@ module _ (g : Group) (p : Proc) (found : find (is_runner p.pid) g.frame.procs �
       let new = content_valid g object (max len (place + length bytes)) (put old place bytes) v (omega (arith, small, within))
       (append_fit (take place old) (bytes ++ drop (place + length bytes) old) (take_fit place old (bytes_in_fit g object v)) (append_fit bytes (drop (place + length bytes) old) fit (drop_fit (place + length bytes) old (bytes_in_fit g object v))))
       (λ m e. length-put old place bytes (omega (arith, size, within)) ∙ ap (λ (x : Option (ℕ × List ℕ)). length {A = ℕ} (elim x as (λ z. List ℕ) [ None ↦ [] | Some y ↦ y.1 ])) e)
-      (zeros_after place bytes (omega (arith, size, within))) in
+      (zeros_behind old len place bytes (omega (arith, size, within)) old_zeros) in
       record {
         value_fits = omega (arith, within);
         valid = moved_valid (with_content g object place bytes) o object (place + length bytes) at is (omega (arith, within)) new;

@@ -11,14 +11,6 @@ pub record IsFresh (g : Group) : Type 0 where
   pub pair : g.frame.next.pair ≤ 2 ^ 63
   pub position : last_position g.frame.out ≤ 2 ^ 63
 
--- numbers that leave room for a run: behind its steps, at most 100,000,000,000, the group is fresh still
-pub record HasUnwornNumbers (g : Group) : Type 0 where
-  pub object : g.frame.next.object ≤ 2 ^ 62
-  pub descr : g.frame.next.descr ≤ 2 ^ 62
-  pub pipe : g.frame.next.pipe ≤ 2 ^ 62
-  pub pair : g.frame.next.pair ≤ 2 ^ 62
-  pub position : last_position g.frame.out ≤ 2 ^ 62
-
 -- A fork copies at most 4,096 objects; pipe2 and socketpair make two descriptions; a write to the outside appends at most 1,048,576 bytes.
 pub record Rises (g h : Group) : Type 0 where
   pub object : h.frame.next.object ≤ g.frame.next.object + 4096

@@ -1,20 +1,22 @@
 //! What holds of the definitions of a step, whatever the group.
 
-ghost use Rattle.std.specs.Prelude.{◌≡◌, ◌⊎◌, ◌==◌, if◌then◌else◌, ℕ, Bool, List, Some, IsTrue, false, map};
-ghost use Rattle.rv64_isa.specs.Instruction.{instruction};
+ghost use Rattle.std.specs.Prelude.{Any, ◌≡◌, ◌⊎◌, ◌+◌, ◌<◌, ◌≤◌, ◌==◌, if◌then◌else◌, ℕ, Bool, List, Some, IsTrue, true, false, Option};
+ghost use Rattle.rv64_isa.specs.Instruction.{instruction, list_of, steps};
+ghost use Rattle.rv64_isa.specs.declared.regs.Regs.{Regs};
 ghost use Rattle.rv64_isa.specs.Memory.{Write, is_same_place, private_cells, stored_all};
 ghost use Rattle.address_maps.specs.Mappings.{mapping_at};
 ghost use Rattle.std.specs.Option.{option_map};
 ghost use Rattle.group_defs.specs.declared.frame.Proc.{Proc};
 ghost use Rattle.address_maps.specs.declared.maps.Mapping.{Mapping};
-ghost use Rattle.group_defs.specs.Cells.{AllInside, cells_of, sight, with_byte_at, with_writes};
-ghost use Rattle.group_defs.specs.Group.{Group, runner, regs_of};
+ghost use Rattle.group_defs.specs.Cells.{AllInside, bytes_in, cells_of, sight, with_byte_at, with_writes};
+ghost use Rattle.group_defs.specs.Group.{Group, runner, regs_of, with_regs};
 ghost use Rattle.group_defs.specs.Objects.{is_of_file, maps_object};
-ghost use Rattle.group_defs.specs.Standing.{State, acknowledged, barrier};
+ghost use Rattle.group_defs.specs.Standing.{Standing, State, acknowledged, barrier, is_durable, since_of, stepped};
 ghost use Rattle.group_laws.specs.Fresh.{IsFresh, Rises};
 ghost use Rattle.group_defs.specs.Step.{after_effect, group_step, group_waits, is_local};
 ghost use Rattle.group_defs.specs.Pages.{is_among, touched_with_step};
 ghost use Rattle.group_defs.specs.Valid.{GroupIsValid};
+ghost use Rattle.tables.specs.Rising.{Rise};
 
 /// A step of any process, by an instruction or any call, keeps a group valid while its next numbers and its last position are
 /// far from their types' ends.
@@ -43,26 +45,61 @@ pub fn waiting_changes_nothing()
         → group_waits durable g pid ≡ false }
 {}
 
-/// A local step is the step on the cells of private mappings alone.
+/// A local step is the step on the cells of private mappings alone. It is made from the process's registers and what it sees
+/// of its private mappings, and so are these afterwards, whatever the other processes are.
 pub fn local_steps_are_private()
-    ensures { (durable : Bool) (g : Group) (pid : ℕ) (p : Proc) → runner g pid ≡ Some p
+    ensures step { (durable : Bool) (g : Group) (pid : ℕ) (p : Proc) → runner g pid ≡ Some p
         → IsTrue (is_local g pid) → group_step durable g pid
         ≡ after_effect durable g p (instruction (private_cells (sight g p)) (regs_of p)) }
+    ensures own { (durable : Bool) (g : Group) (pid : ℕ) (p : Proc) → GroupIsValid g
+        → runner g pid ≡ Some p → IsTrue (is_local g pid) → (r : Regs) × (stored : Option Write)
+        × (instruction (private_cells (sight g p)) (regs_of p) ≡ steps r stored)
+        × (runner (group_step durable g pid) pid ≡ Some (with_regs r p))
+        × (private_cells (cells_of (group_step durable g pid).memory p.maps)
+        ≡ stored_all (private_cells (sight g p)) (list_of stored)) }
 {}
 
-/// A step of one process leaves every other running process as it is, but for a parent that it ends, who is none then; and
-/// it touches no page of an object that its own process doesn't map and that isn't a file's.
+/// A step of one process, by an instruction or any call, leaves every other running process as it is, but for a parent that it
+/// ends, who is none then; it changes no byte of an object that its own process doesn't map and another running one does, so
+/// each other sees the same of its private mappings; and it touches no page of an object of the group that its own process
+/// doesn't map and that isn't a file's.
 pub fn others_stay()
     ensures processes { (durable : Bool) (g : Group) (pid other : ℕ) (p : Proc)
-        → (pid == other) ≡ false → runner g other ≡ Some p
+        → Rise (λ q. q.pid) g.frame.procs → (pid == other) ≡ false → runner g other ≡ Some p
         → (q : Proc) × (runner (group_step durable g pid) other ≡ Some q)
         × (q ≡ record p { parent = q.parent })
         × ((q.parent ≡ p.parent) ⊎ ((q.parent ≡ 0) × (p.parent ≡ pid))) }
+    ensures bytes { (durable : Bool) (g : Group) (pid other : ℕ) (p q : Proc) (object : ℕ)
+        → GroupIsValid g → (pid == other) ≡ false → runner g pid ≡ Some p → runner g other ≡ Some q
+        → maps_object object q ≡ true → maps_object object p ≡ false
+        → bytes_in (group_step durable g pid).memory object ≡ bytes_in g.memory object }
+    ensures private { (durable : Bool) (g : Group) (pid other : ℕ) (p : Proc) → GroupIsValid g
+        → (pid == other) ≡ false → runner g other ≡ Some p
+        → private_cells (cells_of (group_step durable g pid).memory p.maps)
+        ≡ private_cells (sight g p) }
     ensures pages { (durable : Bool) (g : Group) (pid : ℕ) (p : Proc) (so_far : List (ℕ × ℕ))
         (object page : ℕ) → GroupIsValid g → runner g pid ≡ Some p
         → maps_object object p ≡ false → is_of_file g.frame.files object ≡ false
-        → is_among so_far (object, page) ≡ false
+        → object < g.frame.next.object → is_among so_far (object, page) ≡ false
         → is_among (touched_with_step durable g pid so_far) (object, page) ≡ false }
+{}
+
+/// After a step the next barrier is the first that covers the process that made it, and a child that it made, which has the
+/// number that was next: so it isn't durable until that barrier is acknowledged. Every other process stays as it was.
+pub fn steps_want_the_next_barrier()
+    ensures own { (s : Standing) (pid next : ℕ) (procs : List Proc)
+        → Rise (λ q. q.pid) procs → (q : Proc) → Any (λ x. x ≡ q) procs
+        → q.pid ≡ pid → since_of (stepped s pid next procs) q.pid ≡ s.last + 1 }
+    ensures child { (s : Standing) (pid next : ℕ) (procs : List Proc)
+        → Rise (λ q. q.pid) procs → (q : Proc) → Any (λ x. x ≡ q) procs
+        → q.pid ≡ next → since_of (stepped s pid next procs) q.pid ≡ s.last + 1 }
+    ensures others { (s : Standing) (pid next : ℕ) (procs : List Proc)
+        → Rise (λ q. q.pid) procs → (q : Proc) → Any (λ x. x ≡ q) procs
+        → (q.pid ≡ pid → ⊥) → (q.pid ≡ next → ⊥)
+        → since_of (stepped s pid next procs) q.pid ≡ since_of s q.pid }
+    ensures waits { (s : Standing) (pid next : ℕ) (procs : List Proc)
+        → Rise (λ q. q.pid) procs → (q : Proc) → Any (λ x. x ≡ q) procs → s.acked ≤ s.last
+        → q.pid ≡ pid → is_durable (stepped s pid next procs) q.pid ≡ false }
 {}
 
 /// What a process stores in the flat table is what it then sees, and each byte is seen through every mapping of its object,
