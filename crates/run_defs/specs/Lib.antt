@@ -1,10 +1,9 @@
 -- What the public clauses say.
-pub mod Trace
-pub mod Legal
-pub mod Solo
-pub mod Ends
+pub mod Marks
 pub mod Turns
-pub mod Smallest
 pub mod Touched
+pub mod Progress
+pub mod Legal
+pub mod Ends
+pub mod Solo
 pub mod Limits
-pub mod AtRest

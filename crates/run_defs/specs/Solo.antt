@@ -1,43 +1,39 @@
 -- The trace of a run on one thread: of the legal ones, the one whose order is fixed.
-use Rattle.std.specs.Prelude.{◌≡◌, ℕ, List, [], ◌∷◌, ◌++◌, Some, None, IsTrue}
-use Rattle.std.specs.List.{last_or}
+use Rattle.std.specs.Prelude.{◌≡◌, ℕ, List, ◌++◌}
+use Rattle.group_defs.specs.Group.{Group}
+use Rattle.run_defs.specs.Ends.{HasEnded}
+use Rattle.run_defs.specs.Legal.{Allowed, BarrierAllowed, IsAtRest}
+use Rattle.run_defs.specs.Progress.{EachMark, Progress, progress_after, progress_at}
 use Rattle.run_defs.specs.declared.run.Limits.{Limits}
 use Rattle.run_defs.specs.declared.run.Mark.{Mark}
 use Rattle.run_defs.specs.declared.run.Mark.TheVariants.{Take, Turn, Barrier, Fetch, Ack}
-use Rattle.run_defs.specs.Ends.{HasEnded}
-use Rattle.group_defs.specs.Group.{Group}
-use Rattle.run_defs.specs.Legal.{Legal, BarrierAllowed}
-use Rattle.run_defs.specs.Trace.{group_after, leases, all_acked}
 
 -- Worker 0 takes a process where no lease is out, each Barrier has its Ack, no Barrier is allowed, and the run hasn't ended.
-pub record TakeInOrder (origin : ℕ) (limits : Limits) (before : List Mark) (g : Group) (worker : ℕ) : Type 0 where
+-- So each Take is followed by its Turn, and each Barrier by its Fetch and its Ack: no other mark is allowed there.
+pub record TakeInOrder (limits : Limits) (r : Progress) (worker : ℕ) : Type 0 where
   pub worker_is : worker ≡ 0
-  pub no_lease : leases before ≡ []
-  pub acked : IsTrue (all_acked before)
-  pub no_barrier : (epoch : ℕ) → BarrierAllowed origin limits before g epoch → ⊥
-  pub goes_on : HasEnded limits before g → ⊥
+  pub rests : IsAtRest r
+  pub no_barrier : (epoch : ℕ) → BarrierAllowed limits r epoch → ⊥
+  pub goes_on : HasEnded limits r → ⊥
 
--- Each Take is followed by its Turn, each Barrier by its Fetch and its Ack.
-abbrev pub IsInSoloOrder : Group → ℕ → Limits → List Mark → Mark → Type 0
-IsInSoloOrder start origin limits before (Take worker pid) = TakeInOrder origin limits before (group_after limits.quantum start before) worker
-IsInSoloOrder start origin limits before (Turn worker pid n) = last_or None before ≡ Some (Take worker pid)
-IsInSoloOrder start origin limits before (Barrier epoch) = Unit {0}
-IsInSoloOrder start origin limits before (Fetch epoch) = last_or None before ≡ Some (Barrier epoch)
-IsInSoloOrder start origin limits before (Ack epoch) = last_or None before ≡ Some (Fetch epoch)
+abbrev pub IsInSoloOrder : Limits → Progress → Mark → Type 0
+IsInSoloOrder limits r (Take worker pid) = TakeInOrder limits r worker
+IsInSoloOrder limits r (Turn worker pid n) = Unit {0}
+IsInSoloOrder limits r (Barrier epoch) = Unit {0}
+IsInSoloOrder limits r (Fetch epoch) = Unit {0}
+IsInSoloOrder limits r (Ack epoch) = Unit {0}
 
-unfoldable pub InOrderAfter : Group → ℕ → Limits → List Mark → List Mark → Type 0
-InOrderAfter start origin limits before [] = Unit {0}
-InOrderAfter start origin limits before (m ∷ ms) = IsInSoloOrder start origin limits before m × InOrderAfter start origin limits (before ++ m ∷ []) ms
+abbrev pub IsSoloMark : Limits → Progress → Mark → Type 0
+IsSoloMark limits r m = Allowed limits r m × IsInSoloOrder limits r m
 
 -- what a run on one thread has logged so far
-pub record IsSoloSoFar (start : Group) (origin : ℕ) (limits : Limits) (marks : List Mark) : Type 0 where
-  pub legal : Legal start origin limits marks
-  pub order : InOrderAfter start origin limits [] marks
+abbrev pub IsSoloSoFar : Group → ℕ → Limits → List Mark → Type 0
+IsSoloSoFar start origin limits marks = EachMark (IsSoloMark limits) limits.quantum (progress_at origin start) marks
 
 -- all of it, which ends at the first settled end
 pub record IsSoloTrace (start : Group) (origin : ℕ) (limits : Limits) (marks : List Mark) : Type 0 where
   pub so_far : IsSoloSoFar start origin limits marks
-  pub ended : HasEnded limits marks (group_after limits.quantum start marks)
+  pub ended : HasEnded limits (progress_after limits.quantum (progress_at origin start) marks)
 
 -- the beginning of such a trace
 abbrev pub IsSoloPrefix : Group → ℕ → Limits → List Mark → Type 0

@@ -1,5 +1,0 @@
-use Rattle.run_defs.proofs.PageLaws.{first_has_all}
-use Rattle.run_defs.proofs.laws.first_checkpoint_has_all.Goals as goal
-
-pub returns : goal.returns
-returns c = first_has_all

@@ -1,8 +1,0 @@
-use Rattle.run_defs.proofs.MovedLaws.{has_moved_found, has_moved_split}
-use Rattle.run_defs.proofs.laws.idle_turns_follow_others.Goals as goal
-
-pub returns-clause-found : goal.returns-clause-found
-returns-clause-found c = has_moved_found
-
-pub returns-clause-stands : goal.returns-clause-stands
-returns-clause-stands c = has_moved_split

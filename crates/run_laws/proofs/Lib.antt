@@ -1,0 +1,16 @@
+pub mod FileBytes
+pub mod LegalLaws
+pub mod MachineLaws
+pub mod OutputLaws
+pub mod OutputParts
+pub mod ReadyLaws
+pub mod RunLaws
+pub mod SoloLaws
+pub mod TurnLaws
+pub mod RestLaws
+pub mod WholeTraces
+pub mod Epochs
+pub mod PageLaws
+pub mod Runs
+pub mod CountLaws
+pub mod MovedLaws

@@ -1,0 +1,5 @@
+-- What the public clauses say.
+pub mod AtRest
+pub mod Counts
+pub mod Order
+pub mod Smallest
