@@ -11,7 +11,7 @@ use Rattle.ckpt_records.specs.Listed.{first_page, IsApart, AreApart}
 use Rattle.ckpt_records.specs.Spelling.{listed_runs}
 use Rattle.ckpt_chain.specs.Slot.{IsFormat}
 use Rattle.tables.proofs.Ordered.{each_weaker}
-use Rattle.ckpt_records.specs.Runs.{page_at, pages_of, pages_in, lone_run, continues, longer, runs_from, runs_of}
+use Rattle.ckpt_records.specs.Runs.{page_at, run_pages, pages_of_runs, lone_run, continues, longer, runs_from, runs_of}
 
 pub cases : (b : Bool) → (b ≡ true) ⊎ (b ≡ false)
 cases true = inl refl
@@ -43,21 +43,21 @@ continued r p x y z = rw (eq-eqb p.object r.object x, eq-eqb p.page (r.first + r
 
 -- ---- the pages of the runs of a list
 
-pub lone_pages : (p : PagePlace) → pages_of (lone_run p) ≡ p ∷ []
+pub lone_pages : (p : PagePlace) → run_pages (lone_run p) ≡ p ∷ []
 lone_pages p = ap (λ (q : PagePlace). q ∷ []) (same_place p.object (p.page + 0) (p.block + 0) p.object p.page p.block refl (omega arith) (omega arith))
 
-longer_pages : (r : PageRun) (p : PagePlace) → continues r p ≡ true → pages_of (longer r) ≡ pages_of r ++ p ∷ []
-longer_pages r p said = map-range_with_len_more (page_at r) 0 r.count r.count (omega arith) ∙ ap (λ (q : PagePlace). pages_of r ++ q ∷ []) (next_page r p said)
+longer_pages : (r : PageRun) (p : PagePlace) → continues r p ≡ true → run_pages (longer r) ≡ run_pages r ++ p ∷ []
+longer_pages r p said = map-range_with_len_more (page_at r) 0 r.count r.count (omega arith) ∙ ap (λ (q : PagePlace). run_pages r ++ q ∷ []) (next_page r p said)
 
-from_pages : (r : PageRun) (pages : List PagePlace) → pages_in (runs_from r pages) ≡ pages_of r ++ pages
+from_pages : (r : PageRun) (pages : List PagePlace) → pages_of_runs (runs_from r pages) ≡ run_pages r ++ pages
 unfolding runs_from
 from_pages r [] = refl
 from_pages r (p ∷ pages) = elim (cases (continues r p)) [
-  | inl said ↦ rw said (from_pages (longer r) pages ∙ ap (λ (ps : List PagePlace). ps ++ pages) (longer_pages r p said) ∙ append_assoc (pages_of r) (p ∷ []) pages)
-  | inr said ↦ rw said (ap (λ (ps : List PagePlace). pages_of r ++ ps) (from_pages (lone_run p) pages ∙ ap (λ (ps : List PagePlace). ps ++ pages) (lone_pages p)))
+  | inl said ↦ rw said (from_pages (longer r) pages ∙ ap (λ (ps : List PagePlace). ps ++ pages) (longer_pages r p said) ∙ append_assoc (run_pages r) (p ∷ []) pages)
+  | inr said ↦ rw said (ap (λ (ps : List PagePlace). run_pages r ++ ps) (from_pages (lone_run p) pages ∙ ap (λ (ps : List PagePlace). ps ++ pages) (lone_pages p)))
 ]
 
-runs_cover : (pages : List PagePlace) → pages_in (runs_of pages) ≡ pages
+runs_cover : (pages : List PagePlace) → pages_of_runs (runs_of pages) ≡ pages
 unfolding runs_of
 runs_cover [] = refl
 runs_cover (p ∷ pages) = from_pages (lone_run p) pages ∙ ap (λ (ps : List PagePlace). ps ++ pages) (lone_pages p)
@@ -110,52 +110,52 @@ takes_in r (suc n) pages =
     rw yes (takes_in (longer r) n pages ∙ ap (λ (q : PageRun). runs_from q pages) (same_run r.object r.first (r.count + 1 + n) r.block r.first (r.count + suc n) r.block refl (omega arith) refl))
 
 -- a run's first page, and the others
-opened : (r : PageRun) (n : ℕ) → r.count ≡ suc n → pages_of r ≡ first_page r ∷ map (page_at r) (range_with_len 1 n)
+opened : (r : PageRun) (n : ℕ) → r.count ≡ suc n → run_pages r ≡ first_page r ∷ map (page_at r) (range_with_len 1 n)
 opened r n is =
     ap (λ (k : ℕ). map (page_at r) (range_with_len 0 k)) is ∙ ap (λ (p : PagePlace). p ∷ map (page_at r) (range_with_len 1 n)) (same_place r.object (r.first + 0) (r.block + 0) r.object r.first r.block refl (omega arith) (omega arith))
 
 -- a run's pages begin its run
-begins : (r : PageRun) (n : ℕ) (pages : List PagePlace) → r.count ≡ suc n → runs_of (pages_of r ++ pages) ≡ runs_from r pages
+begins : (r : PageRun) (n : ℕ) (pages : List PagePlace) → r.count ≡ suc n → runs_of (run_pages r ++ pages) ≡ runs_from r pages
 unfolding runs_of
 begins r n pages is =
     let alone : PageRun = lone_run (first_page r) in
     ap (λ (ps : List PagePlace). runs_of (ps ++ pages)) (opened r n is) ∙ takes_in alone n pages ∙ ap (λ (q : PageRun). runs_from q pages) (same_run r.object r.first (1 + n) r.block r.first r.count r.block refl (omega (arith, is)) refl)
 
-goes_on : (r q : PageRun) (n : ℕ) (pages : List PagePlace) → q.count ≡ suc n → continues r (first_page q) ≡ false → runs_from r (pages_of q ++ pages) ≡ r ∷ runs_of (pages_of q ++ pages)
+goes_on : (r q : PageRun) (n : ℕ) (pages : List PagePlace) → q.count ≡ suc n → continues r (first_page q) ≡ false → runs_from r (run_pages q ++ pages) ≡ r ∷ runs_of (run_pages q ++ pages)
 unfolding runs_of runs_from
 goes_on r q n pages is apart = rw (opened q n is) (rw apart refl)
 
 one_less : (n : ℕ) → 1 ≤ n → n ≡ suc (n - 1)
 one_less n some = omega arith
 
-runs_again : (runs : List PageRun) → AllByRecursion HasPages runs → AreApart runs → runs_of (pages_in runs) ≡ runs
+runs_again : (runs : List PageRun) → AllByRecursion HasPages runs → AreApart runs → runs_of (pages_of_runs runs) ≡ runs
 unfolding runs_of runs_from
 runs_again [] some apart = refl
 runs_again (r ∷ []) some apart = begins r (r.count - 1) [] (one_less r.count some.0)
 runs_again (r ∷ q ∷ runs) some apart =
-    begins r (r.count - 1) (pages_in (q ∷ runs)) (one_less r.count some.0) ∙ goes_on r q (q.count - 1) (pages_in runs) (one_less q.count some.1.0) apart.0 ∙ ap (λ (rs : List PageRun). r ∷ rs) (runs_again (q ∷ runs) some.1 apart.1)
+    begins r (r.count - 1) (pages_of_runs (q ∷ runs)) (one_less r.count some.0) ∙ goes_on r q (q.count - 1) (pages_of_runs runs) (one_less q.count some.1.0) apart.0 ∙ ap (λ (rs : List PageRun). r ∷ rs) (runs_again (q ∷ runs) some.1 apart.1)
 
 -- ---- pages alone
 
-lone_cover : (pages : List PagePlace) → pages_in (map lone_run pages) ≡ pages
+lone_cover : (pages : List PagePlace) → pages_of_runs (map lone_run pages) ≡ pages
 lone_cover [] = refl
-lone_cover (p ∷ pages) = ap (λ (ps : List PagePlace). ps ++ pages_in (map lone_run pages)) (lone_pages p) ∙ ap (λ (ps : List PagePlace). p ∷ ps) (lone_cover pages)
+lone_cover (p ∷ pages) = ap (λ (ps : List PagePlace). ps ++ pages_of_runs (map lone_run pages)) (lone_pages p) ∙ ap (λ (ps : List PagePlace). p ∷ ps) (lone_cover pages)
 
 lone_some : (pages : List PagePlace) → AllByRecursion HasPages (map lone_run pages)
 lone_some [] = tt
 lone_some (p ∷ pages) = (omega arith, lone_some pages)
 
-lone_again : (runs : List PageRun) → AllByRecursion (λ r. r.count ≡ 1) runs → map lone_run (pages_in runs) ≡ runs
+lone_again : (runs : List PageRun) → AllByRecursion (λ r. r.count ≡ 1) runs → map lone_run (pages_of_runs runs) ≡ runs
 lone_again [] ones = refl
 lone_again (r ∷ runs) ones =
-    ap (λ (ps : List PagePlace). map lone_run (ps ++ pages_in runs)) (opened r 0 ones.0) ∙ ap (λ (rs : List PageRun). lone_run (first_page r) ∷ rs) (lone_again runs ones.1)
+    ap (λ (ps : List PagePlace). map lone_run (ps ++ pages_of_runs runs)) (opened r 0 ones.0) ∙ ap (λ (rs : List PageRun). lone_run (first_page r) ∷ rs) (lone_again runs ones.1)
     ∙ ap (λ (q : PageRun). q ∷ runs) (same_run r.object r.first 1 r.block r.first r.count r.block refl (sym ones.0) refl)
 
 -- ---- the runs by which pages are listed
 
-pub listed_cover : (format : ℕ) → IsFormat format → (pages : List PagePlace) → pages_in (listed_runs format pages) ≡ pages
-listed_cover format (inl is) pages = subst (λ (n : ℕ). pages_in (listed_runs n pages) ≡ pages) (sym is) (lone_cover pages)
-listed_cover format (inr is) pages = subst (λ (n : ℕ). pages_in (listed_runs n pages) ≡ pages) (sym is) (runs_cover pages)
+pub listed_cover : (format : ℕ) → IsFormat format → (pages : List PagePlace) → pages_of_runs (listed_runs format pages) ≡ pages
+listed_cover format (inl is) pages = subst (λ (n : ℕ). pages_of_runs (listed_runs n pages) ≡ pages) (sym is) (lone_cover pages)
+listed_cover format (inr is) pages = subst (λ (n : ℕ). pages_of_runs (listed_runs n pages) ≡ pages) (sym is) (runs_cover pages)
 
 pub listed_some : (format : ℕ) → IsFormat format → (pages : List PagePlace) → AllByRecursion HasPages (listed_runs format pages)
 listed_some format (inl is) pages = subst (λ (n : ℕ). AllByRecursion HasPages (listed_runs n pages)) (sym is) (lone_some pages)
@@ -164,9 +164,9 @@ listed_some format (inr is) pages = subst (λ (n : ℕ). AllByRecursion HasPages
 pub listed_apart : (format : ℕ) (pages : List PagePlace) → format ≡ 2 → AreApart (listed_runs format pages)
 listed_apart format pages is = subst (λ (n : ℕ). AreApart (listed_runs n pages)) (sym is) (runs_apart pages)
 
-pub listed_again : (format : ℕ) → IsFormat format → (runs : List PageRun) → AllByRecursion (λ r. format ≡ 1 → r.count ≡ 1) runs → AllByRecursion HasPages runs → (format ≡ 2 → AreApart runs) → listed_runs format (pages_in runs) ≡ runs
-listed_again format (inl is) runs ones some apart = subst (λ (n : ℕ). listed_runs n (pages_in runs) ≡ runs) (sym is) (lone_again runs (each_weaker (λ r. format ≡ 1 → r.count ≡ 1) (λ r. r.count ≡ 1) runs (λ r one. one is) ones))
-listed_again format (inr is) runs ones some apart = subst (λ (n : ℕ). listed_runs n (pages_in runs) ≡ runs) (sym is) (runs_again runs some (apart is))
+pub listed_again : (format : ℕ) → IsFormat format → (runs : List PageRun) → AllByRecursion (λ r. format ≡ 1 → r.count ≡ 1) runs → AllByRecursion HasPages runs → (format ≡ 2 → AreApart runs) → listed_runs format (pages_of_runs runs) ≡ runs
+listed_again format (inl is) runs ones some apart = subst (λ (n : ℕ). listed_runs n (pages_of_runs runs) ≡ runs) (sym is) (lone_again runs (each_weaker (λ r. format ≡ 1 → r.count ≡ 1) (λ r. r.count ≡ 1) runs (λ r one. one is) ones))
+listed_again format (inr is) runs ones some apart = subst (λ (n : ℕ). listed_runs n (pages_of_runs runs) ≡ runs) (sym is) (runs_again runs some (apart is))
 
 -- ---- the test
 

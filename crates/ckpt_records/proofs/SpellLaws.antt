@@ -17,8 +17,8 @@ use Rattle.ckpt_records.specs.declared.meta.PageRun.{PageRun}
 use Rattle.ckpt_records.specs.Fits as fits
 use Rattle.ckpt_records.specs.Spelling.{listed_runs, run_record, record_bytes}
 use Rattle.ckpt_records.specs.Reading.{record_at}
-use Rattle.ckpt_records.specs.Runs.{pages_in}
-use Rattle.ckpt_records.specs.Listed.{IsRunPlace, IsRunBefore, AreListed, RunEnds}
+use Rattle.ckpt_records.specs.Runs.{RunEnds, pages_of_runs}
+use Rattle.ckpt_records.specs.Listed.{IsRunPlace, IsRunBefore, RunsValid}
 use Rattle.ckpt_records.specs.Spells.{Spells, IsOrderly, IsPagePlace, IsPageBefore, PagesRise}
 use Rattle.ckpt_records.proofs.CodecLaws.{IsBytes, some_is}
 use Rattle.tables.proofs.Ordered.{IsOrdered, each_weaker, ordered_of_pairs, pairs_of_ordered}
@@ -39,14 +39,14 @@ same_record format bytes blocks g f runs pages found s =
     let both = some_is (frame_pair g runs) (frame_pair f (listed_runs format pages)) (sym found ∙ read_again format bytes blocks f pages s) in
     (ap (λ (x : Frame × List PageRun). x.0) both, ap (λ (x : Frame × List PageRun). x.1) both)
 
-pub same_pages : (format : ℕ) (bytes : List ℕ) (blocks : ℕ) (g f : Frame) (runs : List PageRun) (pages : List PagePlace) → record_at format bytes ≡ Some (g, runs) → Spells format bytes blocks f pages → (g ≡ f) × (pages_in runs ≡ pages)
+pub same_pages : (format : ℕ) (bytes : List ℕ) (blocks : ℕ) (g f : Frame) (runs : List PageRun) (pages : List PagePlace) → record_at format bytes ≡ Some (g, runs) → Spells format bytes blocks f pages → (g ≡ f) × (pages_of_runs runs ≡ pages)
 same_pages format bytes blocks g f runs pages found s =
     let same = same_record format bytes blocks g f runs pages found s in
-    (same.0, ap pages_in same.1 ∙ listed_cover format s.known pages)
+    (same.0, ap pages_of_runs same.1 ∙ listed_cover format s.known pages)
 
 -- ---- the runs that are listed
 
-listed_of : (format : ℕ) (bytes : List ℕ) (blocks : ℕ) (f : Frame) (pages : List PagePlace) → Spells format bytes blocks f pages → AreListed format blocks f.objects (listed_runs format pages)
+listed_of : (format : ℕ) (bytes : List ℕ) (blocks : ℕ) (f : Frame) (pages : List PagePlace) → Spells format bytes blocks f pages → RunsValid format blocks f.objects (listed_runs format pages)
 unfolding PagesRise
 listed_of format bytes blocks f pages s =
     let some = listed_some format s.known pages in
@@ -59,15 +59,15 @@ listed_of format bytes blocks f pages s =
       apart = listed_apart format pages;
     }
 
-pub not_listed : (format : ℕ) (bytes : List ℕ) (blocks : ℕ) (g f : Frame) (runs : List PageRun) (pages : List PagePlace) → record_at format bytes ≡ Some (g, runs) → (ListsRise g → AreListed format blocks g.objects runs → ⊥) → Spells format bytes blocks f pages → ⊥
+pub not_listed : (format : ℕ) (bytes : List ℕ) (blocks : ℕ) (g f : Frame) (runs : List PageRun) (pages : List PagePlace) → record_at format bytes ≡ Some (g, runs) → (ListsRise g → RunsValid format blocks g.objects runs → ⊥) → Spells format bytes blocks f pages → ⊥
 not_listed format bytes blocks g f runs pages found never s =
     let same = same_record format bytes blocks g f runs pages found s in
-    never (subst ListsRise (sym same.0) s.orderly.lists) (subst (λ (h : Frame). AreListed format blocks h.objects runs) (sym same.0) (subst (AreListed format blocks f.objects) (sym same.1) (listed_of format bytes blocks f pages s)))
+    never (subst ListsRise (sym same.0) s.orderly.lists) (subst (λ (h : Frame). RunsValid format blocks h.objects runs) (sym same.0) (subst (RunsValid format blocks f.objects) (sym same.1) (listed_of format bytes blocks f pages s)))
 
 has_pages : (objects : List ObjectRec) (blocks : ℕ) (runs : List PageRun) → AllByRecursion (IsRunPlace objects blocks) runs → AllByRecursion HasPages runs
 has_pages objects blocks runs each = each_weaker (IsRunPlace objects blocks) HasPages runs (λ r h. h.0) each
 
-pub found_record : (format : ℕ) (bytes : List ℕ) (blocks : ℕ) (f : Frame) (runs : List PageRun) → IsFormat format → IsBytes bytes → record_at format bytes ≡ Some (f, runs) → ListsRise f → AreListed format blocks f.objects runs → Spells format bytes blocks f (pages_in runs)
+pub found_record : (format : ℕ) (bytes : List ℕ) (blocks : ℕ) (f : Frame) (runs : List PageRun) → IsFormat format → IsBytes bytes → record_at format bytes ≡ Some (f, runs) → ListsRise f → RunsValid format blocks f.objects runs → Spells format bytes blocks f (pages_of_runs runs)
 unfolding PagesRise
 found_record format bytes blocks f runs known ok found lists listed =
     let t = record_takes format known bytes (f, runs) ok found in
@@ -79,8 +79,8 @@ found_record format bytes blocks f runs known ok found lists listed =
       fits = subst (fits.RunRecordFits format f) again t.1;
       orderly = record {
         lists = lists;
-        rising = pairs_of_ordered IsPageBefore (pages_in runs) (runs_ordered runs (ordered_of_pairs IsRunBefore runs listed.rising));
-        placed = All-from_recursion (IsPagePlace f blocks) (pages_in runs) (runs_placed f blocks runs listed.placed);
+        rising = pairs_of_ordered IsPageBefore (pages_of_runs runs) (runs_ordered runs (ordered_of_pairs IsRunBefore runs listed.rising));
+        placed = All-from_recursion (IsPagePlace f blocks) (pages_of_runs runs) (runs_placed f blocks runs listed.placed);
       };
     }
 
@@ -91,7 +91,7 @@ run_ends objects blocks r small range h =
     let object : fits.ObjectInRange o = subst fits.ObjectInRange is (range i o lt) in
     (omega (arith, own.1, object.1), omega (arith, h.2, small))
 
-pub ends_fit : (format : ℕ) (bytes : List ℕ) (blocks : ℕ) (f : Frame) (runs : List PageRun) → IsFormat format → IsBytes bytes → record_at format bytes ≡ Some (f, runs) → blocks < 2 ^ 64 → AreListed format blocks f.objects runs → AllByRecursion RunEnds runs
+pub ends_fit : (format : ℕ) (bytes : List ℕ) (blocks : ℕ) (f : Frame) (runs : List PageRun) → IsFormat format → IsBytes bytes → record_at format bytes ≡ Some (f, runs) → blocks < 2 ^ 64 → RunsValid format blocks f.objects runs → AllByRecursion RunEnds runs
 ends_fit format bytes blocks f runs known ok found small listed =
     let t = record_takes format known bytes (f, runs) ok found in
     each_weaker (IsRunPlace f.objects blocks) RunEnds runs (λ r h. run_ends f.objects blocks r small (All-from_recursion fits.ObjectInRange f.objects t.1.1.1.0.1) h) listed.placed

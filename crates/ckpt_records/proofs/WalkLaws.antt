@@ -8,7 +8,7 @@ use Rattle.std.proofs.lemmas.Bool.{false≢true, eqb-true, le-ltb, lt-ltb, ltb-t
 use Rattle.std.proofs.lemmas.Bool.Decides.{nat_tests}
 use Rattle.group_defs.specs.declared.frame.ObjectRec.{ObjectRec}
 use Rattle.ckpt_records.specs.declared.meta.PageRun.{PageRun}
-use Rattle.ckpt_records.specs.Listed.{IsRunPlace, IsRunBefore, AreApart, AreListed, objects_from, is_first_placed, are_placed}
+use Rattle.ckpt_records.specs.Listed.{IsRunPlace, IsRunBefore, AreApart, RunsValid, objects_from, is_first_placed, are_placed}
 use Rattle.tables.proofs.Ordered.{IsOrdered, each_weaker, each_both, ordered_of_pairs}
 
 abbrev pub IsBelow : ObjectRec → ObjectRec → Type 0
@@ -164,8 +164,8 @@ told : (blocks : ℕ) (objects : List ObjectRec) (runs : List PageRun) → Rise 
 unfolding Rise
 told blocks objects runs rise rising = walk_says blocks runs objects (ordered_of_pairs IsBelow objects rise) (ordered_of_pairs IsRunBefore runs rising)
 
-pub misplaced : (format blocks : ℕ) (objects : List ObjectRec) (runs : List PageRun) → Rise (λ o. o.number) objects → are_placed blocks runs objects ≡ false → AreListed format blocks objects runs → ⊥
+pub misplaced : (format blocks : ℕ) (objects : List ObjectRec) (runs : List PageRun) → Rise (λ o. o.number) objects → are_placed blocks runs objects ≡ false → RunsValid format blocks objects runs → ⊥
 misplaced format blocks objects runs rise denied listed = false≢true (sym denied ∙ (told blocks objects runs rise listed.rising).1 listed.placed)
 
-pub listed_where : (format blocks : ℕ) (objects : List ObjectRec) (runs : List PageRun) → Rise (λ o. o.number) objects → AllPairs IsRunBefore runs → are_placed blocks runs objects ≡ true → (format ≡ 2 → AreApart runs) → AreListed format blocks objects runs
+pub listed_where : (format blocks : ℕ) (objects : List ObjectRec) (runs : List PageRun) → Rise (λ o. o.number) objects → AllPairs IsRunBefore runs → are_placed blocks runs objects ≡ true → (format ≡ 2 → AreApart runs) → RunsValid format blocks objects runs
 listed_where format blocks objects runs rise rising said apart = record { rising = rising; placed = (told blocks objects runs rise rising).0 said; apart = apart }

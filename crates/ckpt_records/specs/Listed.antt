@@ -1,5 +1,5 @@
 -- What is tested of the runs of a record before their pages are kept.
-use Rattle.std.specs.Prelude.{◌≡◌, ◌⊎◌, ◌<◌, ◌≤◌, ◌+◌, ◌^◌, ◌==◌, ◌&&◌, nat_lt, nat_le, ℕ, Bool, true, false, List, [], ◌∷◌, Any, AllPairs, ⊤, if◌then◌else◌}
+use Rattle.std.specs.Prelude.{◌≡◌, ◌⊎◌, ◌<◌, ◌≤◌, ◌+◌, ◌==◌, ◌&&◌, nat_lt, nat_le, ℕ, Bool, true, false, List, [], ◌∷◌, Any, AllPairs, ⊤, if◌then◌else◌}
 use Rattle.std.specs.List.{AllByRecursion}
 use Rattle.group_defs.specs.declared.frame.ObjectRec.{ObjectRec}
 use Rattle.ckpt_records.specs.declared.meta.PagePlace.{PagePlace}
@@ -13,10 +13,6 @@ first_page r = record { object = r.object; page = r.first; block = r.block }
 -- a run whose pages are an object's, in blocks from 2 to the disk's last one
 abbrev pub IsRunPlace : List ObjectRec → ℕ → PageRun → Type 0
 IsRunPlace objects blocks r = (1 ≤ r.count) × (2 ≤ r.block) × (r.block + r.count ≤ blocks) × Any (λ o. (o.number ≡ r.object) × (r.first + r.count ≤ o.pages)) objects
-
--- its ends are numbers of 64 bits
-abbrev pub RunEnds : PageRun → Type 0
-RunEnds r = (r.first + r.count < 2 ^ 64) × (r.block + r.count < 2 ^ 64)
 
 -- in an object before, or in the same one behind the run's last page
 unfoldable pub IsRunBefore : PageRun → PageRun → Type 0
@@ -33,7 +29,7 @@ AreApart [] = ⊤
 AreApart (r ∷ runs) = IsApart r runs × AreApart runs
 
 -- The runs are those by which their pages are listed, and the pages are in their order and in their places.
-pub record AreListed (format blocks : ℕ) (objects : List ObjectRec) (runs : List PageRun) : Type 0 where
+pub record RunsValid (format blocks : ℕ) (objects : List ObjectRec) (runs : List PageRun) : Type 0 where
   pub rising : AllPairs IsRunBefore runs
   pub placed : AllByRecursion (IsRunPlace objects blocks) runs
   pub apart : format ≡ 2 → AreApart runs

@@ -4,6 +4,7 @@ use Rattle.std.specs.List.{AllByRecursion}
 use Rattle.dev_traits.specs.Outside.{SinkView}
 use Rattle.group_defs.specs.declared.frame.Frame.{Frame}
 use Rattle.group_defs.specs.declared.frame.Out.{Out}
+use Rattle.group_defs.specs.Numbers.{HasUnwornNumbers}
 use Rattle.group_defs.specs.Output.{last_position}
 use Rattle.group_defs.specs.Pages.{nonzero_pages}
 use Rattle.ckpt_chain.specs.Slot.{newest, gates_of}
@@ -53,14 +54,10 @@ pub record IsRestored (image : List ℕ) (o : Origin) : Type 0 where
 abbrev pub IsOriginOf : List ℕ → Origin → Type 0
 IsOriginOf image o = ((1 ≤ o.epoch) × IsRestored image o) ⊎ ((o.epoch ≡ 0) × (newest image ≡ None) × (o.gates ≡ gates_of image))
 
--- Numbers that leave room for a run: the epoch, the last position of the output, and what comes next of each kind.
+-- The epoch too leaves room for a run.
 pub record IsUnworn (epoch : ℕ) (f : Frame) : Type 0 where
   pub epoch_is : epoch ≤ 2 ^ 62
-  pub output : last_position f.out ≤ 2 ^ 62
-  pub object : f.next.object ≤ 2 ^ 62
-  pub descr : f.next.descr ≤ 2 ^ 62
-  pub pipe : f.next.pipe ≤ 2 ^ 62
-  pub pair : f.next.pair ≤ 2 ^ 62
+  pub numbers : HasUnwornNumbers f
 
 -- The sink's count is a position of the output: the first one, the last, or one between them.
 abbrev pub IsWithin : SinkView → Out → Type 0

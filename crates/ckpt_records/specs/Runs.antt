@@ -1,5 +1,5 @@
 -- Runs: pages of an object that follow each other, in blocks that follow each other.
-use Rattle.std.specs.Prelude.{ℕ, ◌+◌, ◌==◌, ◌&&◌, Bool, List, [], ◌∷◌, map, if◌then◌else◌}
+use Rattle.std.specs.Prelude.{ℕ, ◌+◌, ◌^◌, ◌<◌, ◌==◌, ◌&&◌, Bool, List, [], ◌∷◌, map, if◌then◌else◌}
 use Rattle.std.specs.List.{flat_map, range_with_len}
 use Rattle.ckpt_records.specs.declared.meta.PagePlace.{PagePlace}
 use Rattle.ckpt_records.specs.declared.meta.PageRun.{PageRun}
@@ -9,11 +9,15 @@ abbrev pub page_at : PageRun → ℕ → PagePlace
 page_at r i = record { object = r.object; page = r.first + i; block = r.block + i }
 
 -- the pages of a run
-abbrev pub pages_of : PageRun → List PagePlace
-pages_of r = map (page_at r) (range_with_len 0 r.count)
+abbrev pub run_pages : PageRun → List PagePlace
+run_pages r = map (page_at r) (range_with_len 0 r.count)
 
-abbrev pub pages_in : List PageRun → List PagePlace
-pages_in runs = flat_map pages_of runs
+abbrev pub pages_of_runs : List PageRun → List PagePlace
+pages_of_runs runs = flat_map run_pages runs
+
+-- the run's ends are numbers of 64 bits
+abbrev pub RunEnds : PageRun → Type 0
+RunEnds r = (r.first + r.count < 2 ^ 64) × (r.block + r.count < 2 ^ 64)
 
 -- a page as a run of its own
 abbrev pub lone_run : PagePlace → PageRun

@@ -76,9 +76,9 @@ fn are_placed(blocks: u64, runs: &[PageRun], objects: &[ObjectRec]) -> bool
 }
 
 /// Whether runs may be listed: they and their places rise, and in format 2 none continues the one before it.
-pub fn are_listed(format: u8, blocks: u64, objects: &[ObjectRec], runs: &[PageRun]) -> bool
+pub fn runs_valid(format: u8, blocks: u64, objects: &[ObjectRec], runs: &[PageRun]) -> bool
     requires { Rise (λ o. o.number) objects.now }
-    ensures { IsTrue result ↔ tests.AreListed format blocks objects.now runs.now }
+    ensures { IsTrue result ↔ tests.RunsValid format blocks objects.now runs.now }
 {
     if !runs_rise(runs) {
         return false;

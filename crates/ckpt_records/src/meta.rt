@@ -21,6 +21,13 @@ pub struct PageRun {
     pub block: u64,
 }
 
+/// What the record of a checkpoint says, with runs in place of the pages.
+#[derive(Debug, Drop)]
+pub struct Listing {
+    pub frame: Frame,
+    pub runs: Seq<PageRun>,
+}
+
 /// What the record of a checkpoint says: the group without the bytes of its pages, and where those
 /// pages lie that aren't all zero.
 #[derive(Debug, Drop)]

@@ -6,9 +6,9 @@ ghost use Rattle.std.specs.List.{AllByRecursion};
 ghost use Rattle.group_defs.specs.declared.frame.Frame.{Frame};
 ghost use Rattle.ckpt_records.specs.declared.meta.PagePlace.{PagePlace};
 ghost use Rattle.ckpt_records.specs.Gives.{Gives};
-ghost use Rattle.ckpt_records.specs.Listed.{AreListed, RunEnds};
+ghost use Rattle.ckpt_records.specs.Listed.{RunsValid};
 ghost use Rattle.ckpt_records.specs.Reading.{record_at, parts_at, head_at, parts_of as frame_parts};
-ghost use Rattle.ckpt_records.specs.Runs.{pages_in};
+ghost use Rattle.ckpt_records.specs.Runs.{RunEnds, pages_of_runs};
 ghost use Rattle.ckpt_records.specs.Spelling.{record_bytes, listed_runs, magic, first_fields, middle};
 ghost use Rattle.ckpt_records.specs.Fits.{RecordRange, FrontRange, MiddleRange, HasEnd, IsInForm};
 ghost use Rattle.ckpt_records.specs.Spells.{Spells, IsOrderly};
@@ -16,10 +16,10 @@ ghost use Rattle.ckpt_records.specs.Spells.{Spells, IsOrderly};
 use crate::counted::{list_of, put_items, put_list};
 use crate::error::ReadError;
 use crate::field::Field;
-use crate::listed::are_listed;
-use crate::meta::{Meta, PagePlace, PageRun};
+use crate::listed::runs_valid;
+use crate::meta::{Listing, Meta, PagePlace, PageRun};
 use crate::numbers::u64_at;
-use crate::runs::{pages_in, runs_of};
+use crate::runs::runs_of;
 use group_defs::{
     FileRec, Frame, Next, ObjectRec, Open, OpenKind, Out, Pair, Pipe, Proc, lists_rise,
 };
@@ -28,16 +28,6 @@ use std::alloc::{AllocError, Global};
 
 /// The number that is spelled `AURMETA0`. A record begins with it and its format in the last byte.
 const MAGIC: u64 = 3_477_153_043_933_451_585;
-
-/// The pages of a valid group are no more: 65,536 of memory, and 256 of each of 64 files.
-const MOST_PAGES: u64 = 81_920;
-
-/// A record as it is read: a frame, and the runs by which pages are listed.
-#[derive(Drop)]
-struct Listing {
-    frame: Frame,
-    runs: Seq<PageRun>,
-}
 
 fn head_of(format: u8, bytes: &[u8]) -> Result<(u64, &[u8]), ReadError>
     requires { format < 128 }
@@ -92,22 +82,10 @@ fn record_of(alloc: Global, format: u8, bytes: &[u8]) -> Result<Listing, ReadErr
 
 fn is_orderly(format: u8, blocks: u64, listing: &Listing) -> bool
     ensures { IsTrue result ↔ (ListsRise listing.now.frame
-        × AreListed format blocks listing.now.frame.objects listing.now.runs) }
+        × RunsValid format blocks listing.now.frame.objects listing.now.runs) }
 {
     let objects = listing.frame.objects.as_slice();
-    lists_rise(&listing.frame) && are_listed(format, blocks, objects, listing.runs.as_slice())
-}
-
-fn meta_of(alloc: Global, listing: Listing) -> Result<Meta, AllocError>
-    requires { AllByRecursion RunEnds listing.runs }
-    ensures { IfOk result (λ m. (m.frame ≡ listing.frame) × (m.pages ≡ pages_in listing.runs)) }
-{
-    let Listing { frame, runs } = listing;
-    let pages = pages_in(alloc, runs.as_slice())?;
-    Ok(Meta {
-        frame,
-        pages: Seq::of(pages),
-    })
+    lists_rise(&listing.frame) && runs_valid(format, blocks, objects, listing.runs.as_slice())
 }
 
 // Whether records have this format.
@@ -117,20 +95,40 @@ fn is_format(format: u8) -> bool
     format == 1 || format == 2
 }
 
-// Whether runs stand for more pages than any valid group has. They may name the same blocks, so few bytes can stand for many.
-fn are_too_many(runs: &[PageRun]) -> bool {
-    let mut left = MOST_PAGES;
-    for run in runs {
-        if run.count > left {
-            return true;
-        }
-        left -= run.count;
+/// The frame that the bytes spell in a format, 1 or 2, on a disk of so many blocks, and the runs of its pages. In another
+/// format they spell nothing. Its memory is linear in the bytes, however many pages the runs stand for.
+pub fn read_listing(
+    alloc: Global,
+    format: u8,
+    bytes: &[u8],
+    blocks: u64,
+) -> Result<Option<Listing>, NoMemory>
+    // What is read is spelled so.
+    ensures found { IfOk result (λ r. IfSome r
+        (λ l. Spells format bytes.now blocks l.frame (pages_of_runs l.runs))) }
+    // What is spelled so is read, and nothing else.
+    ensures only { (f : Frame) (pages : List PagePlace) → Spells format bytes.now blocks f pages
+        → IfOk result (λ r. MatchOption r ⊥
+        (λ l. (l.frame ≡ f) × (pages_of_runs l.runs ≡ pages))) }
+    ensures ends { IfOk result (λ r. IfSome r (λ l. AllByRecursion RunEnds l.runs)) }
+{
+    if !is_format(format) {
+        return Ok(None);
     }
-    false
+    match record_of(alloc, format, bytes) {
+        Err(ReadError::NoMemory) => Err(NoMemory),
+        Err(ReadError::Nothing) => Ok(None),
+        Ok(listing) => {
+            if !is_orderly(format, blocks, &listing) {
+                return Ok(None);
+            }
+            Ok(Some(listing))
+        }
+    }
 }
 
-/// What the bytes spell in a format, 1 or 2, on a disk of so many blocks. In another format they spell nothing. A record of
-/// format 2 of more pages than any valid group has is want of memory.
+/// What the bytes spell in a format, 1 or 2, on a disk of so many blocks. In another format they spell nothing. Runs may name
+/// the same blocks, so few bytes can spell many pages: `read_listing` reads them without taking memory for the pages.
 pub fn read_meta(
     alloc: Global,
     format: u8,
@@ -144,20 +142,11 @@ pub fn read_meta(
     ensures only { (f : Frame) (pages : List PagePlace) → Spells format bytes.now blocks f pages
         → IfOk result (λ r. MatchOption r ⊥ (λ m. (m.frame ≡ f) × (m.pages ≡ pages))) }
 {
-    if !is_format(format) {
-        return Ok(None);
-    }
-    match record_of(alloc, format, bytes) {
-        Err(ReadError::NoMemory) => Err(NoMemory),
-        Err(ReadError::Nothing) => Ok(None),
-        Ok(listing) => {
-            if !is_orderly(format, blocks, &listing) {
-                return Ok(None);
-            }
-            if format == 2 && are_too_many(listing.runs.as_slice()) {
-                return Err(NoMemory);
-            }
-            let meta = meta_of(alloc, listing)?;
+    match read_listing(alloc, format, bytes, blocks) {
+        Err(NoMemory) => Err(NoMemory),
+        Ok(None) => Ok(None),
+        Ok(Some(listing)) => {
+            let meta = listing.into_meta(alloc)?;
             Ok(Some(meta))
         }
     }

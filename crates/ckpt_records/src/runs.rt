@@ -1,10 +1,12 @@
 //! The runs by which a record lists pages.
 ghost use Rattle.std.specs.Prelude.{◌≡◌, ◌++◌, ◌+◌, ◌==◌, IfOk, OnOk};
 ghost use Rattle.std.specs.List.{AllByRecursion};
-ghost use Rattle.ckpt_records.specs.Listed.{RunEnds, first_page as first_of};
+ghost use Rattle.ckpt_records.specs.Listed.{first_page as first_of};
 ghost use Rattle.ckpt_records.specs.Runs as spelled;
+ghost use Rattle.ckpt_records.specs.Runs.{RunEnds};
 
-use crate::meta::{PagePlace, PageRun};
+use crate::meta::{Listing, Meta, PagePlace, PageRun};
+use lists::{NoMemory, Seq};
 use std::alloc::{AllocError, Global};
 
 // Whether a number is this much above the first one.
@@ -68,7 +70,7 @@ pub fn runs_of(alloc: Global, pages: &[PagePlace]) -> Result<Vec<PageRun>, Alloc
 
 fn put_pages(pages: &mut Vec<PagePlace>, run: &PageRun) -> Result<(), AllocError>
     requires { RunEnds run.now }
-    ensures { OnOk result (pages.new.items ≡ pages.old.items ++ spelled.pages_of run.now) }
+    ensures { OnOk result (pages.new.items ≡ pages.old.items ++ spelled.run_pages run.now) }
 {
     for i in 0..run.count {
         pages.push(PagePlace {
@@ -80,14 +82,30 @@ fn put_pages(pages: &mut Vec<PagePlace>, run: &PageRun) -> Result<(), AllocError
     Ok(())
 }
 
-/// The pages of runs, one after another.
-pub fn pages_in(alloc: Global, runs: &[PageRun]) -> Result<Vec<PagePlace>, AllocError>
+// The pages of runs, one after another.
+fn pages_of_runs(alloc: Global, runs: &[PageRun]) -> Result<Vec<PagePlace>, AllocError>
     requires { AllByRecursion RunEnds runs.now }
-    ensures { IfOk result (λ v. v.items ≡ spelled.pages_in runs.now) }
+    ensures { IfOk result (λ v. v.items ≡ spelled.pages_of_runs runs.now) }
 {
     let mut pages = Vec::new(alloc);
     for run in runs {
         put_pages(&mut pages, run)?;
     }
     Ok(pages)
+}
+
+impl Listing {
+    /// Lists the pages of the runs, each of which takes memory.
+    pub fn into_meta(self, alloc: Global) -> Result<Meta, NoMemory>
+        requires ends { AllByRecursion RunEnds self.runs }
+        ensures frame { IfOk result (λ m. m.frame ≡ self.frame) }
+        ensures pages { IfOk result (λ m. m.pages ≡ spelled.pages_of_runs self.runs) }
+    {
+        let Listing { frame, runs } = self;
+        let pages = pages_of_runs(alloc, runs.as_slice())?;
+        Ok(Meta {
+            frame,
+            pages: Seq::of(pages),
+        })
+    }
 }

@@ -8,7 +8,7 @@ use Rattle.ckpt_chain.specs.declared.slot.Slot.{Slot}
 use Rattle.ckpt_chain.specs.declared.slot.SlotBody.{SlotBody}
 use Rattle.commit_gate.specs.Commit.{IsBeforeLaid, IsTornAt}
 use Rattle.commit_gate.specs.Whole.{IsDataBlock, numbers, laid_on, finished, IsBeforeBodied, IsBeforeOpened, IsDuring}
-use Rattle.commit_gate.specs.Parts.{IsSlotOpening}
+use Rattle.commit_gate.specs.Phases.{IsSlotOpening}
 use Rattle.commit_gate.specs.declared.whole.Block.{Block}
 use Rattle.commit_gate.specs.ImageLaws.{laid_finished}
 

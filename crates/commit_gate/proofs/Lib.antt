@@ -1,4 +1,4 @@
 pub mod Stages
 mod Told
-pub mod Parts
+pub mod Phases
 pub mod During

@@ -2,7 +2,7 @@
 pub mod Written
 pub mod Commit
 pub mod Whole
-pub mod Parts
+pub mod Phases
 -- Laws of these words, proved.
 pub mod SlotLaws
 pub mod ImageLaws

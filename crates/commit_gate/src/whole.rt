@@ -9,7 +9,7 @@ ghost use Rattle.dev_traits.specs.Since.{LeavesOnly};
 ghost use Rattle.ckpt_chain.specs.Slot.{gate_place};
 ghost use Rattle.commit_gate.specs.Commit.{IsBeforeLaid, IsTornAt, PassesOver};
 ghost use Rattle.commit_gate.specs.Whole.{IsDataBlock, numbers, with_blocks, laid_on, finished, IsDuring, StepsInOrder, FailsInOrder, Reads, calls_more, UpTo, closing, write_calls, AddsCommit, AddsNone};
-ghost use Rattle.commit_gate.specs.Parts.{IsSlotOpening, gathered, whole_commit, Goes, HasFailed, GatesLast, Within, stays};
+ghost use Rattle.commit_gate.specs.Phases.{IsSlotOpening, gathered, whole_commit, Goes, HasFailed, GatesLast, Within, stays};
 
 use crate::states::{BadDisk, Closed, DiskFault, Laid, start};
 use ckpt_chain::{Slot, SlotBody};

@@ -24,7 +24,7 @@ use Rattle.commit_gate.specs.Commit.{block_range}
 use Rattle.commit_gate.specs.Whole.{IsDataBlock, IsUnfinished, numbers, finished, with_blocks}
 use Rattle.commit_gate.specs.declared.whole.Block.{Block}
 use Rattle.ckpt_records.specs.Newest.{NewestCheckpoint, nothing, checkpoint, HasNewest, target_after, epoch_after}
-use Rattle.page_flusher.specs.CommitPlan.{Avoids, HasNewestOrNext}
+use Rattle.page_flusher.specs.CommitPlan.{Avoids, HasNewestOr}
 use Rattle.commit_gate.specs.ImageLaws.{below_blocks, blocks_same}
 use Rattle.page_flusher.specs.KeptBlocks.{DescribesGates, gate_in}
 use Rattle.page_flusher.specs.declared.kept.KeptBlocks.{KeptBlocks}
@@ -179,12 +179,12 @@ keeps_unfinished law count (checkpoint epoch g pages metas B) blocks r image siz
     (unfinished_other A blocks count avoids.placed r image un ∙ was.0, still (open_body r (gate_place A)) (open_body image (gate_place A)) (λ x. x.epoch < keeps.body.epoch) un.slot was.1) in
     stays law blocks r image epoch g pages metas B keeps (now ∙ sym keeps.newest_is) un avoids.free
 
-pub keeps_or_holds : KeptIsHeld → (count : ℕ) (kept : NewestCheckpoint) (h : Group) (pages : List PagePlace) (metas : List ℕ) (blocks : List Block) (body : SlotBody) (r image : List ℕ) → length r ≡ 4096 * count → HasNewest r kept → Avoids count kept blocks
-    → HoldsAt (finished (target_after kept) blocks body r) (epoch_after kept) h pages metas (target_after kept)
-    → IsUnfinished (target_after kept) blocks r image ⊎ (image ≡ finished (target_after kept) blocks body r) → HasNewestOrNext kept h image
-keeps_or_holds law count kept h pages metas blocks body r image size keeps avoids held (inl un) = inl (keeps_unfinished law count kept blocks r image size keeps avoids un)
-keeps_or_holds law count kept h pages metas blocks body r image size keeps avoids held (inr done) =
-    inr (pages, metas, subst (λ (x : List ℕ). HoldsAt x (epoch_after kept) h pages metas (target_after kept)) (sym done) held)
+pub keeps_or_holds : KeptIsHeld → (count : ℕ) (kept : NewestCheckpoint) (epoch : ℕ) (h : Group) (pages : List PagePlace) (metas : List ℕ) (blocks : List Block) (body : SlotBody) (r image : List ℕ) → length r ≡ 4096 * count → HasNewest r kept → Avoids count kept blocks
+    → HoldsAt (finished (target_after kept) blocks body r) epoch h pages metas (target_after kept)
+    → IsUnfinished (target_after kept) blocks r image ⊎ (image ≡ finished (target_after kept) blocks body r) → HasNewestOr kept epoch h image
+keeps_or_holds law count kept epoch h pages metas blocks body r image size keeps avoids held (inl un) = inl (keeps_unfinished law count kept blocks r image size keeps avoids un)
+keeps_or_holds law count kept epoch h pages metas blocks body r image size keeps avoids held (inr done) =
+    inr (pages, metas, subst (λ (x : List ℕ). HoldsAt x epoch h pages metas (target_after kept)) (sym done) held)
 
 -- ---- the slot of a finished commit
 
@@ -193,7 +193,7 @@ module _ (count : ℕ) (blocks : List Block) (body : SlotBody) (r : List ℕ) (l
   says : (target : Slot) → 1 ≤ body.epoch → open_body (finished target blocks body r) (gate_place target) ≡ Some body
   says target some = finished_slot target blocks count placed r body least size format some epoch64 first64 length64
 
-  newest_after : (kept : NewestCheckpoint) → HasNewest r kept → body.epoch ≡ epoch_after kept → newest (finished (target_after kept) blocks body r) ≡ Some (target_after kept, body)
+  newest_after : (kept : NewestCheckpoint) → HasNewest r kept → epoch_after kept ≤ body.epoch → newest (finished (target_after kept) blocks body r) ≡ Some (target_after kept, body)
   newest_after nothing keeps is =
       let none = finished_other A blocks count placed r body least size ∙ (none_found (open_body r (gate_place A)) (open_body r (gate_place B)) keeps).1 in
       a_newest (open_body (finished A blocks body r) (gate_place A)) (open_body (finished A blocks body r) (gate_place B)) body (says A (omega (arith, is)), λ x some. absurd (none-some x (sym none ∙ some)))
@@ -206,7 +206,7 @@ module _ (count : ℕ) (blocks : List Block) (body : SlotBody) (r : List ℕ) (l
       a_newest (open_body (finished A blocks body r) (gate_place A)) (open_body (finished A blocks body r) (gate_place B)) body
       (says A (omega (arith, is)), λ x some. omega (arith, ap (λ (y : SlotBody). y.epoch) (same_Some keeps.body x (sym before ∙ some)), keeps.epoch_is, is))
 
-pub committed_newest : (count : ℕ) (kept : NewestCheckpoint) (blocks : List Block) (body : SlotBody) (r : List ℕ) → 16 ≤ count → length r ≡ 4096 * count → HasNewest r kept → Avoids count kept blocks → IsFormat body.format → body.epoch ≡ epoch_after kept
+pub committed_newest : (count : ℕ) (kept : NewestCheckpoint) (blocks : List Block) (body : SlotBody) (r : List ℕ) → 16 ≤ count → length r ≡ 4096 * count → HasNewest r kept → Avoids count kept blocks → IsFormat body.format → epoch_after kept ≤ body.epoch
     → body.epoch < 2 ^ 64 → body.first < 2 ^ 64 → body.length < 2 ^ 64 → newest (finished (target_after kept) blocks body r) ≡ Some (target_after kept, body)
 committed_newest count kept blocks body r least size keeps avoids format is epoch first len = newest_after count blocks body r least size avoids.placed format epoch first len kept keeps is
 

@@ -158,7 +158,7 @@ module _ (count : ℕ) (used : List ℕ) (epoch : ℕ) (f : Frame) (pages : List
     }
 
     module _ (least : 16 ≤ count) (most : count ≤ 2 ^ 20)
-        (kept : NewestCheckpoint) (covers : Covers used kept) (epoch_is : epoch ≡ epoch_after kept) (epoch64 : epoch < 2 ^ 64)
+        (kept : NewestCheckpoint) (covers : Covers used kept) (later : epoch_after kept ≤ epoch) (epoch64 : epoch < 2 ^ 64)
         (r : List ℕ) (size : length r ≡ 4096 * count) (keeps : HasNewest r kept) where
       counted : block_count (finished (target_after kept) blocks body r) ≡ count
       counted =
@@ -177,7 +177,7 @@ module _ (count : ℕ) (used : List ℕ) (epoch : ℕ) (f : Frame) (pages : List
 
       newest_is : newest (finished (target_after kept) blocks body r) ≡ Some (target_after kept, body)
       newest_is =
-          committed_newest count kept blocks body r least size keeps (laid_avoids kept covers) (inr (ap (λ (b : SlotBody). b.format) l.body_is)) (ap (λ (b : SlotBody). b.epoch) l.body_is ∙ epoch_is)
+          committed_newest count kept blocks body r least size keeps (laid_avoids kept covers) (inr (ap (λ (b : SlotBody). b.format) l.body_is)) (omega (arith, ap (λ (b : SlotBody). b.epoch) l.body_is, later))
           (omega (arith, ap (λ (b : SlotBody). b.epoch) l.body_is, epoch64))
           (omega (arith, ap (λ (b : SlotBody). b.first) l.body_is, first_below count l.metas (omega (arith, least)) metas_on_disk, most))
           (omega (arith, ap (λ (b : SlotBody). b.length) l.body_is, few_bytes, most))
@@ -218,10 +218,9 @@ module _ (count : ℕ) (used : List ℕ) (epoch : ℕ) (f : Frame) (pages : List
   replaced : IsSpelledBy (record_bytes 2 f (placed pages l.places)) f (placed pages l.places) → WrittenIsHeld → KeptIsHeld → (g : Group) → g.frame ≡ f → IsCheckpointed g → ArePagesOf g pages → 16 ≤ count → count ≤ 2 ^ 20 → epoch < 2 ^ 64 → (kept : NewestCheckpoint) (target : Slot) (r : List ℕ)
       → IsBeforeCommit count used epoch target kept r → Replaces kept epoch g (placed pages l.places) l.metas target blocks body r
   replaced spelled written_held held_kept g same checkpointed are least most epoch64 kept target r before =
-      let held = holds_after g same checkpointed are least most kept before.covers (sym before.next) epoch64 r before.size before.keeps spelled written_held in
+      let held = holds_after g same checkpointed are least most kept before.covers before.later epoch64 r before.size before.keeps spelled written_held in
       subst (λ (t : Slot). Replaces kept epoch g (placed pages l.places) l.metas t blocks body r) before.into (record {
-        during = λ image either. keeps_or_holds held_kept count kept g (placed pages l.places) l.metas blocks body r image before.size before.keeps (laid_avoids kept before.covers)
-            (subst (λ (e : ℕ). HoldsAt (finished (target_after kept) blocks body r) e g (placed pages l.places) l.metas (target_after kept)) (sym before.next) held) either;
+        during = λ image either. keeps_or_holds held_kept count kept epoch g (placed pages l.places) l.metas blocks body r image before.size before.keeps (laid_avoids kept before.covers) held either;
         after = held;
       })
 

@@ -17,27 +17,31 @@ pub record Avoids (count : ℕ) (kept : NewestCheckpoint) (blocks : List Block) 
   pub placed : AllByRecursion (IsDataBlock count) blocks
   pub free : (b : ℕ) → Has b (numbers blocks) → Has b (used_by kept) → ⊥
 
--- what a stop during the commit leaves: what was kept, or the next epoch's group
+-- what a stop during the commit of a group as this epoch leaves: what was kept, or that group
+abbrev pub HasNewestOr : NewestCheckpoint → ℕ → Group → List ℕ → Type 0
+HasNewestOr kept epoch h image =
+    HasNewest image kept ⊎ ((pages : List PagePlace) × (metas : List ℕ) × HoldsAt image epoch h pages metas (target_after kept))
+
+-- ... as the next epoch
 abbrev pub HasNewestOrNext : NewestCheckpoint → Group → List ℕ → Type 0
-HasNewestOrNext kept h image =
-    HasNewest image kept ⊎ ((pages : List PagePlace) × (metas : List ℕ) × HoldsAt image (epoch_after kept) h pages metas (target_after kept))
+HasNewestOrNext kept h image = HasNewestOr kept (epoch_after kept) h image
 
 -- The blocks in use have those of what is kept.
 abbrev pub Covers : List ℕ → NewestCheckpoint → Type 0
 Covers used kept = (b : ℕ) → Has b (used_by kept) → Has b used
 
--- Before a commit the disk of so many blocks keeps this, which uses only blocks in use; the commit is of the epoch after it, into
--- the slot that it leaves.
+-- Before a commit the disk of so many blocks keeps this, which uses only blocks in use; the commit is of a later epoch, from 1 on,
+-- into the slot that it leaves.
 pub record IsBeforeCommit (count : ℕ) (used : List ℕ) (epoch : ℕ) (target : Slot) (kept : NewestCheckpoint) (r : List ℕ) : Type 0 where
   pub covers : Covers used kept
-  pub next : epoch_after kept ≡ epoch
+  pub later : epoch_after kept ≤ epoch
   pub into : target_after kept ≡ target
   pub size : length r ≡ 4096 * count
   pub keeps : HasNewest r kept
 
 -- The commit replaces what is kept: at each of its moments the disk keeps that, or has the group; once it is finished, the group.
 pub record Replaces (kept : NewestCheckpoint) (epoch : ℕ) (g : Group) (pages : List PagePlace) (metas : List ℕ) (target : Slot) (blocks : List Block) (body : SlotBody) (r : List ℕ) : Type 0 where
-  pub during : (image : List ℕ) → IsUnfinished target blocks r image ⊎ (image ≡ finished target blocks body r) → HasNewestOrNext kept g image
+  pub during : (image : List ℕ) → IsUnfinished target blocks r image ⊎ (image ≡ finished target blocks body r) → HasNewestOr kept epoch g image
   pub after : HoldsAt (finished target blocks body r) epoch g pages metas target
 
 -- The plan of a group's commit as this epoch: its pages and its meta blocks lie in the blocks written, which are no more than the

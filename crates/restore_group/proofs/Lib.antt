@@ -1,6 +1,7 @@
 mod HeldLaws
 mod LayerLaws
-mod PartsLaws
 mod OwnLaws
+mod PartsLaws
 mod ReadLaws
 mod SharedOut
+pub mod FewPages

@@ -69,3 +69,48 @@ fn a_page_and_a_record_take_the_least_free_blocks(rt: HostRuntime) -> Result<(),
     }
     Ok(())
 }
+
+/// Pages of an object that follow each other, from the first on.
+fn pages_in_a_row(alloc: Global, count: u64) -> Result<Vec<Page>, Fail>
+    ensures { IfOk result (λ pages. AllByRecursion (λ p. length p.bytes ≡ 4096) pages.items) }
+{
+    let mut pages = Vec::new(alloc);
+    for page in 0..count {
+        let mut bytes = Vec::new(alloc);
+        bytes.resize(4096, 7)?;
+        pages.push(Page {
+            object: 1,
+            page,
+            bytes: Seq::of(bytes),
+        })?;
+    }
+    if !pages.iter().all(|p| p.bytes.len() == 4_096) {
+        return Err(Fail::new("a page isn't whole"));
+    }
+    Ok(pages)
+}
+
+/// 125 pages that one run lists take a meta block, and two where each is a run of its own.
+#[test]
+fn a_plan_is_refused_though_its_runs_would_fit(rt: HostRuntime) -> Result<(), Fail> {
+    let alloc = rt.alloc();
+    let frame = no_frame(alloc);
+    if !is_in_form(&frame) {
+        return Err(Fail::new("the frame has no spelling"));
+    }
+    match plan_commit(alloc, 129, &[], 1, &frame, pages_in_a_row(alloc, 125)?) {
+        Ok(plan) => assert_eq!(rt; plan.blocks.len(), 126),
+        Err(_) => return Err(Fail::new("there is no plan")),
+    }
+    match plan_commit(alloc, 128, &[], 1, &frame, pages_in_a_row(alloc, 125)?) {
+        Ok(_) => return Err(Fail::new("there is a plan")),
+        Err(refused) => assert_eq!(rt;
+            refused,
+            PlanRefused::Full {
+                need: 127,
+                free: 126
+            }
+        ),
+    }
+    Ok(())
+}

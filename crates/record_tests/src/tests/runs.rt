@@ -1,6 +1,6 @@
 //! The runs by which a record lists the pages of an object of 13 pages and of one of a single page.
 use crate::tests::samples::{BLOCKS, frame_of, is_nothing, spelled};
-use ckpt_records::{PagePlace, read_meta};
+use ckpt_records::{PagePlace, PageRun, read_listing, read_meta};
 use std::alloc::Global;
 use std::test::Fail;
 
@@ -113,5 +113,27 @@ fn a_run_stands_for_its_pages(rt: HostRuntime) -> Result<(), Fail> {
     };
     let pages = [placed(1, 5), placed(2, 6), placed(3, 7), placed(5, 8)];
     assert_eq!(rt; meta.pages.as_slice(), pages.as_slice());
+    Ok(())
+}
+
+/// A run of the first object.
+fn page_run(first: u64, count: u64, block: u64) -> PageRun {
+    PageRun {
+        object: 0,
+        first,
+        count,
+        block,
+    }
+}
+
+#[test]
+fn a_listing_has_the_runs(rt: HostRuntime) -> Result<(), Fail> {
+    let alloc = rt.alloc();
+    let record = with_runs(alloc, &[(0, 1, 3, 5), (0, 5, 1, 8)])?;
+    let Some(listing) = read_listing(alloc, 2, &record, BLOCKS)? else {
+        return Err(Fail::new("the record spells nothing"));
+    };
+    let runs = [page_run(1, 3, 5), page_run(5, 1, 8)];
+    assert_eq!(rt; listing.runs.as_slice(), runs.as_slice());
     Ok(())
 }

@@ -257,19 +257,25 @@ fn restored(
 ) -> Result<(Result<Origin, Refused>, u64), Fail> {
     let disk = MemDisk::of(alloc, image.to_vec(alloc)?, 40)?;
     let mut disk = disk.failing(Vec::from_slice(alloc, &[failing])?);
-    if disk.blocks() != 16 {
-        return Err(Fail::new("the disk has not 16 blocks"));
+    if disk.blocks() < 16 || disk.blocks() > 1_024 {
+        return Err(Fail::new("the disk has another size"));
     }
     let answer = restore(alloc, &mut disk);
     Ok((answer, disk.moment()))
 }
 
+/// Why nothing is restored of a disk whose call of one number, from 1, fails, and how many calls that took.
+fn refused_at(alloc: Global, image: &[u8], failing: u64) -> Result<(Option<Refused>, u64), Fail> {
+    let (answer, calls) = restored(alloc, image, failing)?;
+    match answer {
+        Ok(_) => Ok((None, calls)),
+        Err(refused) => Ok((Some(refused), calls)),
+    }
+}
+
 /// Why nothing is restored.
 fn refused(alloc: Global, image: &[u8]) -> Result<Option<Refused>, Fail> {
-    match restored(alloc, image, 0)?.0 {
-        Ok(_) => Ok(None),
-        Err(refused) => Ok(Some(refused)),
-    }
+    Ok(refused_at(alloc, image, 0)?.0)
 }
 
 /// Whether the layer has page 0 alone, and each of its bytes is the block's number.
@@ -298,25 +304,68 @@ fn is_placed(o: &Origin, written: &Checkpoint) -> bool {
         && o.placement.pages.as_slice() == places(written.pages).as_slice()
 }
 
+/// The record in format 2 of what an image is restored to.
+fn restored_record(alloc: Global, image: &[u8]) -> Result<Vec<u8>, Fail> {
+    match restored(alloc, image, 0)?.0 {
+        Ok(o) => spelled(alloc, &o.parts.frame, o.placement.pages.as_slice()),
+        Err(_) => Err(Fail::new("nothing was restored")),
+    }
+}
+
+/// Whether an image is restored with the pages and the places of a checkpoint.
+fn is_restored(alloc: Global, image: &[u8], written: &Checkpoint) -> Result<bool, Fail> {
+    match restored(alloc, image, 0)?.0 {
+        Ok(o) => Ok(has_layers(o.parts.layers.as_slice(), written.pages) && is_placed(&o, written)),
+        Err(_) => Ok(false),
+    }
+}
+
+/// Which slot an image is restored from, with its epoch and the gate bytes of slots A and B.
+#[derive(Clone, Copy, Debug, PartialEq, Eq)]
+struct OpenSlot {
+    epoch: u64,
+    slot: Slot,
+    gates: [u8; 2],
+}
+
+fn opened(alloc: Global, image: &[u8]) -> Result<Option<OpenSlot>, Fail> {
+    match restored(alloc, image, 0)?.0 {
+        Ok(o) => Ok(Some(OpenSlot {
+            epoch: o.epoch,
+            slot: o.placement.slot,
+            gates: o.gates,
+        })),
+        Err(_) => Ok(None),
+    }
+}
+
 #[test]
 fn what_was_written_is_restored(rt: HostRuntime) -> Result<(), Fail> {
     let alloc = rt.alloc();
     for written in [SHORT, LONG, OLD] {
         let image = image_of(alloc, &[written])?;
-        let (answer, calls) = restored(alloc, &image, 0)?;
-        let Ok(o) = answer else {
-            return Err(Fail::new("nothing was restored"));
-        };
-        let record = spelled(alloc, &o.parts.frame, o.placement.pages.as_slice())?;
         let newer = Checkpoint {
             format: 2,
             ..written
         };
-        assert_eq!(rt; o.epoch, written.epoch);
+        let record = restored_record(alloc, &image)?;
         assert!(rt; record.as_slice() == record_of(alloc, &newer)?.as_slice());
-        assert!(rt; has_layers(o.parts.layers.as_slice(), written.pages));
-        assert!(rt; is_placed(&o, &written));
-        assert_eq!(rt; calls, 4 + written.metas.len() as u64);
+    }
+    Ok(())
+}
+
+#[test]
+fn what_was_written_is_restored_with_its_pages(rt: HostRuntime) -> Result<(), Fail> {
+    let alloc = rt.alloc();
+    for written in [SHORT, LONG, OLD] {
+        let image = image_of(alloc, &[written])?;
+        assert!(rt; is_restored(alloc, &image, &written)?);
+        assert_eq!(rt;
+            opened(alloc, &image)?.map(|o| o.epoch),
+            Some(written.epoch)
+        );
+        let calls = 4 + written.metas.len() as u64;
+        assert_eq!(rt; refused_at(alloc, &image, 0)?, (None, calls));
     }
     Ok(())
 }
@@ -336,15 +385,28 @@ fn the_newest_open_slot_is_restored(rt: HostRuntime) -> Result<(), Fail> {
         let first = Checkpoint { epoch: *a, ..SHORT };
         let second = Checkpoint { epoch: *b, ..LONG };
         let image = image_of(alloc, &[first, second])?;
-        let Ok(o) = restored(alloc, &image, 0)?.0 else {
-            return Err(Fail::new("nothing was restored"));
+        let wanted = OpenSlot {
+            epoch: if *newest == Slot::A { *a } else { *b },
+            slot: *newest,
+            gates: [1, 1],
         };
-        assert_eq!(rt; o.placement.slot, *newest);
-        assert_eq!(rt; o.epoch, if *newest == Slot::A { *a } else { *b });
-        assert_eq!(rt; o.gates, [1, 1]);
+        assert_eq!(rt; opened(alloc, &image)?, Some(wanted));
     }
     Ok(())
 }
+
+/// What SHORT's slot is restored as, where the other gate is closed, and LONG's, where both are open.
+const FIRST: OpenSlot = OpenSlot {
+    epoch: 6,
+    slot: Slot::A,
+    gates: [1, 0],
+};
+
+const SECOND: OpenSlot = OpenSlot {
+    epoch: 7,
+    slot: Slot::B,
+    gates: [1, 1],
+};
 
 /// Formats of slots A and B of the same two epochs: either is restored by its own slot's format.
 #[test]
@@ -354,16 +416,21 @@ fn each_slot_has_its_own_format(rt: HostRuntime) -> Result<(), Fail> {
         let first = Checkpoint { format: a, ..SHORT };
         let second = Checkpoint { format: b, ..LONG };
         let mut image = image_of(alloc, &[first, second])?;
-        let Ok(o) = restored(alloc, &image, 0)?.0 else {
-            return Err(Fail::new("nothing was restored"));
-        };
-        assert_eq!(rt; o.epoch, LONG.epoch);
+        assert_eq!(rt; opened(alloc, &image)?, Some(SECOND));
         put_block(&mut image, 1, &[0])?;
-        let Ok(o) = restored(alloc, &image, 0)?.0 else {
-            return Err(Fail::new("nothing was restored"));
-        };
-        assert_eq!(rt; o.epoch, SHORT.epoch);
+        assert_eq!(rt; opened(alloc, &image)?, Some(FIRST));
     }
+    Ok(())
+}
+
+/// A commit of the next epoch beside a slot of format 1, stopped in the write of its gate so that the gate byte is still 0.
+#[test]
+fn a_stop_in_the_gate_write_leaves_the_first_format(rt: HostRuntime) -> Result<(), Fail> {
+    let alloc = rt.alloc();
+    let mut image = image_of(alloc, &[OLD, LONG])?;
+    put(&mut image, 4_096, &[0])?;
+    assert_eq!(rt; opened(alloc, &image)?, Some(FIRST));
+    assert!(rt; is_restored(alloc, &image, &OLD)?);
     Ok(())
 }
 
@@ -393,21 +460,64 @@ fn page_in(page: u64, block: u64) -> PagePlace {
     }
 }
 
-#[test]
-fn a_run_split_in_two_is_damage(rt: HostRuntime) -> Result<(), Fail> {
-    let alloc = rt.alloc();
+/// The record of a process with an object of two pages, both of which have places, and one of one page.
+fn record_of_two(alloc: Global) -> Result<Vec<u8>, Fail> {
     let two = ObjectRec {
         number: 0,
         pages: 2,
     };
     let mut frame = running(alloc, b"out")?;
     frame.objects = Seq::of(Vec::from_slice(alloc, &[two, object(1)])?);
-    let record = spelled(alloc, &frame, &[page_in(0, 5), page_in(1, 7)])?;
+    spelled(alloc, &frame, &[page_in(0, 5), page_in(1, 7)])
+}
+
+#[test]
+fn a_run_split_in_two_is_damage(rt: HostRuntime) -> Result<(), Fail> {
+    let alloc = rt.alloc();
+    let record = record_of_two(alloc)?;
     let mut image = plain(alloc)?;
     put_record(alloc, &mut image, &SHORT, &record)?;
     assert_eq!(rt; refused(alloc, &image)?, None);
     // the last run's block, so that the run continues the one before it
     put(&mut image, 61_440 + record.len() as u64, &[6])?;
+    assert_eq!(rt;
+        refused(alloc, &image)?,
+        Some(Refused::Damaged { epoch: 6 })
+    );
+    Ok(())
+}
+
+/// The record of an object whose 81 runs name the same blocks and stand for 82,782 pages: no valid group has more than 81,920.
+fn record_of_many(alloc: Global) -> Result<Vec<u8>, Fail> {
+    let mut frame = ended(alloc, b"")?;
+    frame.objects.push(ObjectRec {
+        number: 0,
+        pages: 100_000,
+    })?;
+    let bare = spelled(alloc, &frame, &[])?;
+    if bare.len() < 8 {
+        return Err(Fail::new("this is no record"));
+    }
+    let mut record = Vec::from_slice(alloc, &bare[..bare.len() - 8])?;
+    record.extend_from_slice(&81u64.to_le_bytes())?;
+    for run in 0..81u64 {
+        // the object, the first page, how many pages, and the first block
+        record.extend_from_slice(&0u64.to_le_bytes())?;
+        record.extend_from_slice(&(1_023 * run).to_le_bytes())?;
+        record.extend_from_slice(&1_022u64.to_le_bytes())?;
+        record.extend_from_slice(&2u64.to_le_bytes())?;
+    }
+    Ok(record)
+}
+
+#[test]
+fn a_small_record_of_too_many_pages_is_damage(rt: HostRuntime) -> Result<(), Fail> {
+    let alloc = rt.alloc();
+    let record = record_of_many(alloc)?;
+    let mut image = plain(alloc)?;
+    image.resize(4_194_304, 0)?;
+    put_record(alloc, &mut image, &SHORT, &record)?;
+    assert!(rt; record.len() < 4_088);
     assert_eq!(rt;
         refused(alloc, &image)?,
         Some(Refused::Damaged { epoch: 6 })
@@ -497,13 +607,19 @@ fn each_read_that_fails_is_a_disk_fault(rt: HostRuntime) -> Result<(), Fail> {
     let alloc = rt.alloc();
     let image = image_of(alloc, &[SHORT, LONG])?;
     for call in 1..7 {
-        let (answer, calls) = restored(alloc, &image, call)?;
-        assert!(rt; matches!(&answer, Err(Refused::DiskFault)), "call {call}");
-        assert_eq!(rt; calls, call);
+        let answer = refused_at(alloc, &image, call)?;
+        assert_eq!(rt; answer, (Some(Refused::DiskFault), call));
     }
-    let (answer, _) = restored(alloc, &image, 7)?;
-    assert!(rt; answer.is_ok());
+    assert_eq!(rt; refused_at(alloc, &image, 7)?.0, None);
     Ok(())
+}
+
+/// Whether an image is restored as a group of this output that has no objects.
+fn is_ended(alloc: Global, image: &[u8], output: &[u8]) -> Result<bool, Fail> {
+    match restored(alloc, image, 0)?.0 {
+        Ok(o) => Ok(o.parts.frame.out.bytes.as_slice() == output && o.parts.layers.len() == 0),
+        Err(_) => Ok(false),
+    }
 }
 
 #[test]
@@ -512,14 +628,9 @@ fn a_group_without_processes_is_restored(rt: HostRuntime) -> Result<(), Fail> {
     let record = spelled(alloc, &ended(alloc, b"bye")?, &[])?;
     let mut image = plain(alloc)?;
     put_record(alloc, &mut image, &SHORT, &record)?;
-    let (answer, calls) = restored(alloc, &image, 0)?;
-    let Ok(o) = answer else {
-        return Err(Fail::new("nothing was restored"));
-    };
-    assert_eq!(rt; o.parts.frame.out.bytes.as_slice(), b"bye".as_slice());
-    assert_eq!(rt; o.parts.layers.len(), 0);
-    assert_eq!(rt; o.gates, [1, 0]);
-    assert_eq!(rt; calls, 3);
+    assert!(rt; is_ended(alloc, &image, b"bye")?);
+    assert_eq!(rt; opened(alloc, &image)?, Some(FIRST));
+    assert_eq!(rt; refused_at(alloc, &image, 0)?, (None, 3));
     Ok(())
 }
 

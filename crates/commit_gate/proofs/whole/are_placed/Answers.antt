@@ -3,7 +3,7 @@ use Rattle.std.proofs.lemmas.List.{take_all}
 use Rattle.std.specs.List.{AllByRecursion}
 use Rattle.commit_gate.specs.Whole.{IsDataBlock}
 use Rattle.commit_gate.specs.declared.whole.Block.{Block}
-use Rattle.commit_gate.proofs.Parts.{placed_more}
+use Rattle.commit_gate.proofs.Phases.{placed_more}
 use Rattle.commit_gate.proofs.whole.are_placed.Goals as goal
 
 pub returns : goal.returns

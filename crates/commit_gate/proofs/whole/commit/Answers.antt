@@ -9,9 +9,9 @@ use Rattle.ckpt_chain.specs.declared.slot.Slot.{Slot}
 use Rattle.ckpt_chain.specs.declared.slot.SlotBody.{SlotBody}
 use Rattle.commit_gate.specs.Commit.{IsBeforeLaid, IsTornAt, PassesOver, touched}
 use Rattle.commit_gate.specs.Whole.{numbers, laid_on, finished, IsBeforeBodied, IsDuring, StepsInOrder, InOrderToBody, FailsInOrder, Reads, closing, AddsCommit, AddsNone}
-use Rattle.commit_gate.specs.Parts.{Goes, HasFailed, GatesLast, gathered, whole_commit, stays, IsSlotOpening}
+use Rattle.commit_gate.specs.Phases.{Goes, HasFailed, GatesLast, gathered, whole_commit, stays, IsSlotOpening}
 use Rattle.commit_gate.specs.declared.whole.Block.{Block}
-use Rattle.commit_gate.proofs.Parts.{goes_goes, goes_fails, goes_weaker, fails_weaker, read_then}
+use Rattle.commit_gate.proofs.Phases.{goes_goes, goes_fails, goes_weaker, fails_weaker, read_then}
 use Rattle.commit_gate.proofs.During.{during_early, during_opening, body_step, gate_step, opening_steps, finishes}
 use Rattle.commit_gate.proofs.whole.commit.Goals as goal
 

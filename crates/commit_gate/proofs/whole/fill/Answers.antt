@@ -6,9 +6,9 @@ use Rattle.dev_traits.specs.Since.{LeavesOnly, weaker}
 use Rattle.ckpt_chain.specs.declared.slot.Slot.{Slot}
 use Rattle.commit_gate.specs.Commit.{IsBeforeLaid}
 use Rattle.commit_gate.specs.Whole.{numbers, with_blocks, begun, laid_on, closing}
-use Rattle.commit_gate.specs.Parts.{Goes, HasFailed, gathered, stays}
+use Rattle.commit_gate.specs.Phases.{Goes, HasFailed, gathered, stays}
 use Rattle.commit_gate.specs.declared.whole.Block.{Block}
-use Rattle.commit_gate.proofs.Parts.{goes_goes, goes_fails, goes_weaker, fails_weaker, told_by, silent_by, quiet, quiet_silent, ended_of, before_at, begun_reads, read_then, close_calls, no_call, on_ok_at, on_err_at}
+use Rattle.commit_gate.proofs.Phases.{goes_goes, goes_fails, goes_weaker, fails_weaker, told_by, silent_by, quiet, quiet_silent, ended_of, before_at, begun_reads, read_then, close_calls, no_call, on_ok_at, on_err_at}
 use Rattle.commit_gate.proofs.whole.fill.Goals as goal
 
 -- the commit has begun

@@ -6,9 +6,9 @@ use Rattle.dev_traits.specs.Disk.{Puts, CommitsBy}
 use Rattle.dev_traits.specs.Since.{started, weaker}
 use Rattle.commit_gate.specs.Commit.{IsBeforeLaid}
 use Rattle.commit_gate.specs.Whole.{numbers, with_blocks}
-use Rattle.commit_gate.specs.Parts.{Goes, Within, gathered, stays}
+use Rattle.commit_gate.specs.Phases.{Goes, Within, gathered, stays}
 use Rattle.commit_gate.specs.declared.whole.Block.{Block}
-use Rattle.commit_gate.proofs.Parts.{goes_goes, goes_fails, fails_weaker, told_by, silent_by, quiet, quiet_silent, ended_of, block_gathered, with_blocks-more, read_same, read_then, no_call, one_call, placed_at, within_more, before_at, on_ok_at, on_err_at, or_false}
+use Rattle.commit_gate.proofs.Phases.{goes_goes, goes_fails, fails_weaker, told_by, silent_by, quiet, quiet_silent, ended_of, block_gathered, with_blocks-more, read_same, read_then, no_call, one_call, placed_at, within_more, before_at, on_ok_at, on_err_at, or_false}
 use Rattle.commit_gate.proofs.whole.lay.Goals as goal
 
 pub loop-block-init : goal.loop-block-init

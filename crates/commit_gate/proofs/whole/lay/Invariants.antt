@@ -2,7 +2,7 @@ use Rattle.std.proofs.Common.{◌≡◌, take}
 use Rattle.dev_traits.specs.Commits.{nothing_written}
 use Rattle.commit_gate.specs.Commit.{IsBeforeLaid}
 use Rattle.commit_gate.specs.Whole.{numbers, with_blocks, Reads}
-use Rattle.commit_gate.specs.Parts.{Goes, Within, gathered, stays}
+use Rattle.commit_gate.specs.Phases.{Goes, Within, gathered, stays}
 use Rattle.commit_gate.proofs.whole.lay.Given as goal
 
 abbrev pub invariant-loop-block : goal.invariant-loop-block

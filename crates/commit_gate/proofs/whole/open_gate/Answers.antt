@@ -9,9 +9,9 @@ use Rattle.ckpt_chain.specs.declared.slot.Slot.{Slot}
 use Rattle.ckpt_chain.specs.declared.slot.SlotBody.{SlotBody}
 use Rattle.commit_gate.specs.Commit.{IsTornAt, PassesOver, put_down}
 use Rattle.commit_gate.specs.Whole.{finished}
-use Rattle.commit_gate.specs.Parts.{IsSlotOpening, Goes, GatesLast, gathered, whole_commit, stays}
+use Rattle.commit_gate.specs.Phases.{IsSlotOpening, Goes, GatesLast, gathered, whole_commit, stays}
 use Rattle.commit_gate.specs.declared.whole.Block.{Block}
-use Rattle.commit_gate.proofs.Parts.{goes_goes, goes_fails, told_by, silent_by, failed_told, failed_silent, body_gathered, gate_gathered, with_body, read_then, one_call}
+use Rattle.commit_gate.proofs.Phases.{goes_goes, goes_fails, told_by, silent_by, failed_told, failed_silent, body_gathered, gate_gathered, with_body, read_then, one_call}
 use Rattle.commit_gate.proofs.whole.open_gate.Goals as goal
 
 -- a torn gate over the body

@@ -1,7 +1,7 @@
 use Rattle.std.proofs.Common.{◌≡◌, ◌∙◌, sym, refl}
 use Rattle.std.proofs.lemmas.Bool.{false≢true, ne_eqb}
 use Rattle.ckpt_records.proofs.WalkLaws.{misplaced, listed_where}
-use Rattle.ckpt_records.proofs.listed.are_listed.Goals as goal
+use Rattle.ckpt_records.proofs.listed.runs_valid.Goals as goal
 
 pub returns-then-not-runs_rise : goal.returns-then-not-runs_rise
 returns-then-not-runs_rise c = (λ never. absurd (false≢true never), λ listed. absurd (false≢true (sym c.if-not-runs_rise.true ∙ c.runs_rise.ensures.1 listed.rising)))
