@@ -1,6 +1,6 @@
 -- What the step of the process comes to where it isn't local.
-use Rattle.std.proofs.Common.{◌≡◌, ◌≢◌, ◌⊎◌, inl, inr, ℕ, ◌-◌, ◌*◌, ◌%◌, ◌^◌, ◌<◌, ◌≤◌, ◌==◌, Bool, true, false, List, [], ◌++◌, length, Option, Some, None, refl, sym, ap, ◌∙◌, arith}
-use Rattle.std.specs.Prelude.{All, if◌then◌else◌, is_some, MatchOption}
+use Rattle.std.proofs.Common.{◌≡◌, ◌≢◌, ◌⊎◌, inl, inr, ℕ, ◌*◌, ◌%◌, ◌<◌, ◌≤◌, ◌==◌, Bool, true, false, List, [], ◌++◌, length, Option, Some, None, refl, sym, ap, ap₂, subst, ◌∙◌, arith}
+use Rattle.std.specs.Prelude.{All, if◌then◌else◌, is_some, IsTrue, MatchOption}
 use Rattle.std.specs.List.{list_any}
 use Rattle.rv64_isa.specs.declared.regs.Regs.{Regs}
 use Rattle.rv64_isa.specs.Instruction.{Effect, steps, calls, traps, instruction, is_step}
@@ -16,19 +16,22 @@ use Rattle.descriptors.specs.declared.opens.OpenKind.TheVariants.{Nothing, Outsi
 use Rattle.group_defs.specs.Built.{IsPlain}
 use Rattle.group_defs.specs.Calls.{Reply, refuses, answers, ends, fd_of}
 use Rattle.group_defs.specs.declared.calls.TheConstants.{EBADF, ENOSYS}
-use Rattle.group_defs.specs.Cells.{cells_of, with_writes}
+use Rattle.group_defs.specs.Cells.{sight, with_writes}
 use Rattle.group_defs.specs.Changes.{open_at, with_out}
-use Rattle.group_defs.specs.Group.{Group}
+use Rattle.group_defs.specs.Group.{Group, regs_of}
 use Rattle.group_defs.specs.Output.{with_output}
 use Rattle.group_defs.specs.ReadWrite.{put_outside, write_kind, write_open, write_outside}
 use Rattle.group_defs.specs.Step.{after_effect, after_reply, call_in, continued, group_step, is_local, reply_in, reply_to, served}
 use Rattle.tables.specs.Rising.{entry_of}
-use Rattle.group_kernel.specs.Engine.{running_process, running_group, ended_group, IsRunnable}
+use Rattle.group_kernel.specs.Engine.{cells_in, ended_group, group_in, process_in, running_group, running_process, IsRunnable}
+use Rattle.group_kernel.specs.Memory.{memory_in}
+use Rattle.group_kernel.specs.declared.engine_group.EngineGroup.{EngineGroup}
 use Rattle.group_kernel.specs.Descriptors.{is_outside, is_at_outside}
 use Rattle.group_kernel.specs.declared.engine_group.Fixed.{Fixed}
+use Rattle.group_kernel.proofs.EngineLaws.{running_in, runnable_in}
 use Rattle.group_kernel.proofs.MemoryReads.{found_has}
 use Rattle.group_kernel.proofs.ReadLaws.{IsCount}
-use Rattle.group_kernel.proofs.StepLaws.{goes_on, ends_all, step_is, local_is}
+use Rattle.group_kernel.proofs.StepLaws.{ends_in, goes_on, local_in, step_in}
 
 -- ---- the replies
 
@@ -69,29 +72,21 @@ exit_number n low high = grind arith
 chosen : (a b : Reply Group) (t u : Bool) → t ≡ u → (let w : Reply Group = if t then a else b in w) ≡ (let w : Reply Group = if u then a else b in w)
 chosen a b t u same = ap (λ (x : Bool). let w : Reply Group = if x then a else b in w) same
 
-module _ (fixed : Fixed) (maps : List Mapping) (r : Regs) (memory : List (ℕ × List ℕ)) (out : Out) where
-  abbrev g : Group
-  g = running_group fixed maps r memory out
+module _ (h : Group) (p : Proc) where
+  abbrev r : Regs
+  r = regs_of p
 
-  abbrev p : Proc
-  p = running_process fixed maps r
-
-  abbrev cells : Cells
-  cells = cells_of memory maps
-
-  abbrev outside : Bool
-  outside = is_at_outside (open_at fixed.fds fixed.opens (fd_of r))
-
-  pub reply_write : (t : Bool) → IsRunnable g → call_number r ≡ 64 → outside ≡ t → reply_to true g p ≡ (let w : Reply Group = if t then write_outside g cells (a1 r) (a2 r) else refuses EBADF in w)
+  pub reply_write : (t : Bool) → All (λ o. IsPlain o.kind) h.frame.opens → call_number r ≡ 64 → is_at_outside (open_at p.fds h.frame.opens (fd_of r)) ≡ t
+      → reply_to true h p ≡ (let w : Reply Group = if t then write_outside h (sight h p) (a1 r) (a2 r) else refuses EBADF in w)
   unfolding reply_in served call_in
-  reply_write t runs is at = ap (reply_in true g p) is ∙ written_by g cells r fixed.fds fixed.opens runs.built.opens ∙ chosen (write_outside g cells (a1 r) (a2 r)) (refuses EBADF) outside t at
+  reply_write t plain is at = ap (reply_in true h p) is ∙ written_by h (sight h p) r p.fds h.frame.opens plain ∙ chosen (write_outside h (sight h p) (a1 r) (a2 r)) (refuses EBADF) _ t at
 
-  pub reply_exit : (call_number r ≡ 93) ⊎ (call_number r ≡ 94) → reply_to true g p ≡ ends (256 * (a0 r % 256))
+  pub reply_exit : (call_number r ≡ 93) ⊎ (call_number r ≡ 94) → reply_to true h p ≡ ends (256 * (a0 r % 256))
   unfolding reply_in served call_in
-  reply_exit (inl is) = ap (reply_in true g p) is
-  reply_exit (inr is) = ap (reply_in true g p) is
+  reply_exit (inl is) = ap (reply_in true h p) is
+  reply_exit (inr is) = ap (reply_in true h p) is
 
-  pub reply_none : call_number r ≢ 64 → call_number r ≢ 93 → call_number r ≢ 94 → reply_to true g p ≡ refuses ENOSYS
+  pub reply_none : call_number r ≢ 64 → call_number r ≢ 93 → call_number r ≢ 94 → reply_to true h p ≡ refuses ENOSYS
   unfolding reply_in served
   reply_none a b c =
       let not_write : (64 == call_number r) ≡ false = grind (arith, a) in
@@ -100,77 +95,47 @@ module _ (fixed : Fixed) (maps : List Mapping) (r : Regs) (memory : List (ℕ ×
       let none : list_any (λ n. n == call_number r) served ≡ false = rw (not_write, not_exit, not_exit_group) refl in
       rw none refl
 
-  -- ---- the group after a call
-
-  -- an answer with an output, and nothing stored
-  pub answered_with : (after : Out) (value : ℕ) → after_reply g p (answers value (with_out g after) []) ≡ running_group fixed maps (answered r value) memory after
-  unfolding with_writes
-  answered_with after value = goes_on fixed maps r memory after (answered r value)
-
-module _ (h h' : Group) (fixed : Fixed) (maps : List Mapping) (r : Regs) (memory : List (ℕ × List ℕ)) (out : Out) (is : h ≡ running_group fixed maps r memory out) where
-  abbrev here : Group
-  here = running_group fixed maps r memory out
-
-  abbrev q : Proc
-  q = running_process fixed maps r
-
-  -- it goes on
-  pub goes_from : (r' r'' : Regs) → r' ≡ r'' → h' ≡ running_group fixed maps r' memory out → h' ≡ continued h q r''
-  goes_from r' r'' same now =
-      now ∙ ap (λ (s : Regs). running_group fixed maps s memory out) same
-      ∙ sym (ap (λ (x : Group). continued x q r'') is ∙ goes_on fixed maps r memory out r'')
-
-  replied : (reply : Reply Group) → reply_to true here q ≡ reply → reply_to true h q ≡ reply
-  replied reply e = ap (λ (x : Group). reply_to true x q) is ∙ e
-
-  pub after_refusal : (errno : ℕ) → reply_to true here q ≡ refuses errno → h' ≡ continued h q (answered r (2 ^ 64 - errno)) → h' ≡ after_reply h q (reply_to true h q)
-  after_refusal errno reply goes = goes ∙ sym (ap (after_reply h q) (replied (refuses errno) reply))
-
-  pub after_exit : (status : ℕ) → reply_to true here q ≡ ends status → h' ≡ ended_group fixed.next out → h' ≡ after_reply h q (reply_to true h q)
-  after_exit status reply gone =
-      gone
-      ∙ sym (ap (after_reply h q) (replied (ends status) reply)
-      ∙ ap (λ (x : Group). after_reply x q (ends status)) is
-      ∙ ends_all fixed maps r memory out status)
-
-  pub after_write : IsRunnable here → call_number r ≡ 64 → is_at_outside (open_at fixed.fds fixed.opens (fd_of r)) ≡ true →
-      after_reply h q (write_outside h (cells_of memory maps) (a1 r) (a2 r)) ≡ after_reply h q (reply_to true h q)
-  after_write runs number at =
-      sym (ap (after_reply h q) (replied _ (reply_write fixed maps r memory out true runs number at) ∙ ap (λ (x : Group). write_outside x (cells_of memory maps) (a1 r) (a2 r)) (sym is)))
-
   -- a write of no bytes
-  pub wrote_nothing : (seen : Cells) (buf n : ℕ) → n ≡ 0 → h' ≡ continued h q (answered r 0) → h' ≡ after_reply h q (write_outside h seen buf n)
+  pub wrote_nothing : (seen : Cells) (buf n : ℕ) → n ≡ 0 → continued h p (answered r 0) ≡ after_reply h p (write_outside h seen buf n)
   unfolding with_writes
-  wrote_nothing seen buf n none goes = goes ∙ sym (ap (λ (k : ℕ). after_reply h q (write_outside h seen buf k)) none)
+  wrote_nothing seen buf n none = sym (ap (λ (k : ℕ). after_reply h p (write_outside h seen buf k)) none)
 
-  put_some : (bytes : List ℕ) (n : ℕ) (o : Option (List ℕ)) → o ≡ Some bytes → length bytes ≡ n → running_group fixed maps (answered r n) memory (with_output out bytes) ≡ after_reply h q (put_outside h o)
-  put_some bytes n o some size =
-      ap (λ (k : ℕ). running_group fixed maps (answered r k) memory (with_output out bytes)) (sym size)
-      ∙ sym (answered_with fixed maps r memory out (with_output out bytes) (length bytes))
-      ∙ sym (ap (λ (x : Group). after_reply x q (put_outside x o)) is ∙ ap (λ (l : Option (List ℕ)). after_reply here q (put_outside here l)) some)
+-- ---- the group after a call
 
+-- an answer with an output, and nothing stored
+pub answered_with : (fixed : Fixed) (maps : List Mapping) (r : Regs) (memory : List (ℕ × List ℕ)) (out after : Out) (value : ℕ)
+    → (let g : Group = running_group fixed maps r memory out in after_reply g (running_process fixed maps r) (answers value (with_out g after) [])) ≡ running_group fixed maps (answered r value) memory after
+unfolding with_writes
+answered_with fixed maps r memory out after value = goes_on fixed maps r memory after (answered r value)
+
+module _ (g : EngineGroup) (runs : IsTrue g.running) where
   -- the bytes that were read are behind the output
-  pub put_done : (o : Option (List ℕ)) (n : ℕ) (behind : List ℕ) → IsCount n o → is_some o ≡ true → MatchOption o (behind ≡ out.bytes) (λ bytes. behind ≡ out.bytes ++ bytes) →
-      h' ≡ running_group fixed maps (answered r n) memory (record out { bytes = behind }) → h' ≡ after_reply h q (put_outside h o)
-  put_done None n behind count able read now = absurd (cc)
-  put_done (Some bytes) n behind count able read now =
-      now
-      ∙ ap (λ (l : List ℕ). running_group fixed maps (answered r n) memory (record out { bytes = l })) read
-      ∙ put_some bytes n (Some bytes) refl count
+  pub put_done : (o : Option (List ℕ)) (n : ℕ) (behind : List ℕ) → IsCount n o → is_some o ≡ true → MatchOption o (behind ≡ g.out.bytes) (λ bytes. behind ≡ g.out.bytes ++ bytes)
+      → group_in (record g { regs = answered g.regs n; out = record g.out { bytes = behind } }) ≡ after_reply (group_in g) (process_in g) (put_outside (group_in g) o)
+  put_done None n behind count able read = absurd (cc)
+  put_done (Some bytes) n behind count able read =
+      let parts : List ℕ → ℕ → Group = λ l k. running_group g.fixed g.memory.maps (answered g.regs k) (memory_in g.memory.objects.items) (record g.out { bytes = l }) in
+      running_in (record g { regs = answered g.regs n; out = record g.out { bytes = behind } }) runs
+      ∙ ap₂ parts read (sym count)
+      ∙ subst (λ (h : Group). parts (g.out.bytes ++ bytes) (length bytes) ≡ after_reply h (process_in g) (put_outside h (Some bytes))) (sym (running_in g runs))
+      (sym (answered_with g.fixed g.memory.maps g.regs (memory_in g.memory.objects.items) g.out (with_output g.out bytes) (length bytes)))
 
   -- at a call it does the call
-  pub step_calls : instruction (cells_of memory maps) r ≡ calls → after_reply h q (reply_to true h q) ≡ group_step true h fixed.pid
-  step_calls call =
-      ap (λ (x : Group). after_reply x q (reply_to true x q)) is
-      ∙ sym (ap (λ (x : Group). group_step true x fixed.pid) is ∙ step_is fixed maps r memory out ∙ ap (after_effect true here q) call)
+  pub step_calls : instruction (cells_in g) g.regs ≡ calls → after_reply (group_in g) (process_in g) (reply_to true (group_in g) (process_in g)) ≡ group_step true (group_in g) g.fixed.pid
+  step_calls call = sym (step_in g runs ∙ ap (after_effect true (group_in g) (process_in g)) call)
 
-  trap_ends : (e : Effect) → is_step e ≡ false → (e ≡ calls → ⊥) → ended_group fixed.next out ≡ after_effect true here q e
+  trap_ends : (e : Effect) → is_step e ≡ false → (e ≡ calls → ⊥) → ended_group g.fixed.next g.out ≡ after_effect true (group_in g) (process_in g) e
   trap_ends (steps r' write) other no_call = absurd (cc)
   trap_ends calls other no_call = absurd (no_call refl)
-  trap_ends (traps status) other no_call = sym (ends_all fixed maps r memory out status)
+  trap_ends (traps status) other no_call = ends_in g runs status
 
   -- at neither a local step nor a call it ends
-  pub step_ends : IsRunnable here → is_local h fixed.pid ≡ false → (instruction (cells_of memory maps) r ≡ calls → ⊥) → ended_group fixed.next out ≡ group_step true h fixed.pid
-  step_ends runs other no_call =
-      let effect_other : is_step (instruction (cells_of memory maps) r) ≡ false = sym (ap (λ (x : Group). is_local x fixed.pid) is ∙ local_is fixed maps r memory out runs) ∙ other in
-      trap_ends (instruction (cells_of memory maps) r) effect_other no_call ∙ sym (ap (λ (x : Group). group_step true x fixed.pid) is ∙ step_is fixed maps r memory out)
+  pub step_ends : IsRunnable (group_in g) → is_local (group_in g) g.fixed.pid ≡ false → (instruction (cells_in g) g.regs ≡ calls → ⊥) → ended_group g.fixed.next g.out ≡ group_step true (group_in g) g.fixed.pid
+  step_ends runnable other no_call = trap_ends (instruction (cells_in g) g.regs) (sym (local_in g runs runnable) ∙ other) no_call ∙ sym (step_in g runs)
+
+  -- what is done is what the call replies
+  pub write_replies : (t : Bool) → IsRunnable (group_in g) → call_number g.regs ≡ 64 → is_at_outside (open_at g.fixed.fds g.fixed.opens (fd_of g.regs)) ≡ t
+      → reply_to true (group_in g) (process_in g) ≡ (let w : Reply Group = if t then write_outside (group_in g) (cells_in g) (a1 g.regs) (a2 g.regs) else refuses EBADF in w)
+  write_replies t runnable is at =
+      subst (λ (h : Group). reply_to true h (process_in g) ≡ (let w : Reply Group = if t then write_outside h (cells_in g) (a1 g.regs) (a2 g.regs) else refuses EBADF in w)) (sym (running_in g runs))
+      (reply_write (running_group g.fixed g.memory.maps g.regs (memory_in g.memory.objects.items) g.out) (process_in g) t (runnable_in g runs runnable).built.opens is at)

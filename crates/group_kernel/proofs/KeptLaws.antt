@@ -1,6 +1,6 @@
 -- A step that isn't local leaves a valid group, with at most as much output as there was room for.
 use Rattle.std.proofs.Common.{◌≡◌, ℕ, ◌+◌, ◌-◌, ◌*◌, ◌%◌, ◌^◌, ◌<◌, ◌≤◌, ◌==◌, Bool, true, false, List, [], length, Option, Some, None, refl, sym, ap, subst, ◌∙◌, arith, length-append}
-use Rattle.std.specs.Prelude.{if◌then◌else◌, min}
+use Rattle.std.specs.Prelude.{if◌then◌else◌, min, IsTrue}
 use Rattle.rv64_isa.specs.declared.regs.Regs.{Regs}
 use Rattle.rv64_isa.specs.Instruction.{Effect, steps, calls, traps, instruction, is_step}
 use Rattle.rv64_isa.specs.Memory.{readable}
@@ -20,12 +20,15 @@ use Rattle.group_defs.specs.Step.{after_effect, after_reply, group_step, is_loca
 use Rattle.group_defs.specs.Valid.{GroupIsValid, OutValid}
 use Rattle.group_laws.proofs.ServedLaws.{served_reply}
 use Rattle.group_kernel.specs.Descriptors.{is_at_outside}
-use Rattle.group_kernel.specs.Engine.{running_process, running_group, IsRunnable}
+use Rattle.group_kernel.specs.Engine.{cells_in, group_in, process_in, running_process, running_group, IsRunnable}
+use Rattle.group_kernel.specs.Memory.{memory_in}
+use Rattle.group_kernel.specs.declared.engine_group.EngineGroup.{EngineGroup}
 use Rattle.group_kernel.specs.declared.engine_group.Fixed.{Fixed}
 use Rattle.group_kernel.proofs.BuiltLaws.{ended_built, running_built}
 use Rattle.group_kernel.proofs.CallLaws.{answered_with, written_by}
 use Rattle.group_kernel.proofs.ReadLaws.{IsCount, read_count}
-use Rattle.group_kernel.proofs.StepLaws.{goes_on, ends_all, step_is, local_is}
+use Rattle.group_kernel.proofs.EngineLaws.{out_in, running_in, runnable_in}
+use Rattle.group_kernel.proofs.StepLaws.{goes_on, ends_all, local_in, step_is}
 use Rattle.group_kernel.proofs.ValidLaws.{served_step_valid}
 
 -- ---- the output after a call
@@ -119,12 +122,14 @@ module _ (fixed : Fixed) (maps : List Mapping) (r : Regs) (memory : List (ℕ ×
   effect_goes calls other = call_goes
   effect_goes (traps status) other = end_goes status
 
-  -- whatever the step is that isn't local
-  pub other_follows : last_position out + 1048576 < 2 ^ 63 → (h : Group) → h ≡ g → is_local h fixed.pid ≡ false → Follows out (group_step true h fixed.pid)
-  other_follows room_left h is other =
-      let effect_other : is_step (instruction (cells_of memory maps) r) ≡ false = sym (ap (λ (x : Group). is_local x fixed.pid) is ∙ local_is fixed maps r memory out runs) ∙ other in
-      let goes : Goes out (group_step true h fixed.pid) = subst (Goes out) (sym (ap (λ (x : Group). group_step true x fixed.pid) is ∙ step_is fixed maps r memory out)) (effect_goes (instruction (cells_of memory maps) r) effect_other) in
-      record {
-        runnable = record { valid = subst (λ (x : Group). GroupIsValid (group_step true x fixed.pid)) (sym is) (served_step_valid g fixed.pid runs.valid (omega (arith, room_left))); built = goes.built };
-        grew = goes.grew;
-      }
+-- whatever the step is that isn't local
+pub other_follows : (g : EngineGroup) (k : Group) → IsTrue g.running → IsRunnable (group_in g) → is_local (group_in g) g.fixed.pid ≡ false → last_position g.out + 1048576 < 2 ^ 63
+    → k ≡ group_step true (group_in g) g.fixed.pid → Follows g.out k
+other_follows g k runs valid other room_left step =
+    let runnable = runnable_in g runs valid in
+    let effect_other : is_step (instruction (cells_in g) g.regs) ≡ false = sym (local_in g runs valid) ∙ other in
+    let done : k ≡ after_effect true (running_group g.fixed g.memory.maps g.regs (memory_in g.memory.objects.items) g.out) (process_in g) (instruction (cells_in g) g.regs) =
+    step ∙ ap (λ (x : Group). group_step true x g.fixed.pid) (running_in g runs) ∙ step_is g.fixed g.memory.maps g.regs (memory_in g.memory.objects.items) g.out in
+    let goes = subst (Goes g.out) (sym done) (effect_goes g.fixed g.memory.maps g.regs (memory_in g.memory.objects.items) g.out runnable (instruction (cells_in g) g.regs) effect_other) in
+    let low : last_position (group_in g).frame.out ≤ 2 ^ 63 = subst (λ (o : Out). last_position o ≤ 2 ^ 63) (sym (out_in g)) (omega (arith, room_left)) in
+    record { runnable = record { valid = subst GroupIsValid (sym step) (served_step_valid (group_in g) g.fixed.pid valid.valid low); built = goes.built }; grew = goes.grew }

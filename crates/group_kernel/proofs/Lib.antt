@@ -20,3 +20,4 @@ pub mod TurnLaws
 pub mod ValidLaws
 pub mod WaitLaws
 pub mod EngineLaws
+pub mod StateLaws

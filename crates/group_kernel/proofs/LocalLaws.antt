@@ -3,16 +3,21 @@ use Rattle.std.proofs.Common.{◌≡◌, ℕ, true, false, List, [], ◌∷◌, 
 use Rattle.rv64_isa.specs.declared.regs.Regs.{Regs}
 use Rattle.rv64_isa.specs.Instruction.{Effect, steps, calls, traps, instruction, is_step, list_of}
 use Rattle.rv64_isa.specs.Memory.{Cells, Write}
-use Rattle.group_defs.specs.declared.frame.Out.{Out}
+use Rattle.std.specs.Prelude.{IsTrue}
 use Rattle.address_maps.specs.declared.maps.Mapping.{Mapping}
-use Rattle.group_defs.specs.Cells.{cells_of, with_stored, with_writes}
-use Rattle.group_defs.specs.Step.{after_effect, group_step, is_local}
+use Rattle.group_defs.specs.Cells.{with_stored, with_writes}
+use Rattle.group_defs.specs.Group.{Group}
+use Rattle.group_defs.specs.Step.{after_effect, group_step}
 use Rattle.group_defs.specs.Valid.{GroupIsValid}
 use Rattle.rv64_core.specs.Step.{IsAfterStep, IsNoStep, after_landing}
-use Rattle.group_kernel.specs.Engine.{running_process, running_group, IsRunnable}
-use Rattle.group_kernel.specs.declared.engine_group.Fixed.{Fixed}
+use Rattle.group_kernel.specs.Engine.{cells_in, group_in, process_in, running_group, IsRunnable}
+use Rattle.group_kernel.specs.Memory.{memory_in}
+use Rattle.group_kernel.specs.Turning.{IsTried}
+use Rattle.group_kernel.specs.declared.engine_group.EngineGroup.{EngineGroup}
+use Rattle.group_kernel.specs.declared.process_memory.ProcessMemory.{ProcessMemory}
 use Rattle.group_kernel.proofs.BuiltLaws.{running_built}
-use Rattle.group_kernel.proofs.StepLaws.{found_is, goes_on, step_is, local_is}
+use Rattle.group_kernel.proofs.EngineLaws.{running_in, runnable_in}
+use Rattle.group_kernel.proofs.StepLaws.{found_is, goes_on, local_in, step_is}
 use Rattle.group_kernel.proofs.ValidLaws.{instruction_valid}
 
 -- the flat table and the mappings, and what becomes of them when bytes are stored
@@ -25,79 +30,68 @@ table_of memory maps = (memory, maps)
 abbrev landed : Table → ℕ → List ℕ → Table
 landed t address bytes = (with_stored t.0 t.1 address bytes, t.1)
 
--- a step was made: it is local, and the group is after it
-pub record Steps (fixed : Fixed) (maps : List Mapping) (r : Regs) (memory : List (ℕ × List ℕ)) (out : Out) (maps' : List Mapping) (r' : Regs) (memory' : List (ℕ × List ℕ)) : Type 0 where
-  pub local : is_local (running_group fixed maps r memory out) fixed.pid ≡ true
-  pub group : running_group fixed maps' r' memory' out ≡ group_step true (running_group fixed maps r memory out) fixed.pid
-  pub runnable : IsRunnable (running_group fixed maps' r' memory' out)
-
--- no step was made: the next one isn't local, and nothing changed
-pub record Stays (fixed : Fixed) (maps : List Mapping) (r : Regs) (memory : List (ℕ × List ℕ)) (out : Out) (maps' : List Mapping) (r' : Regs) (memory' : List (ℕ × List ℕ)) : Type 0 where
-  pub local : is_local (running_group fixed maps r memory out) fixed.pid ≡ false
-  pub group : running_group fixed maps' r' memory' out ≡ running_group fixed maps r memory out
-  pub runnable : IsRunnable (running_group fixed maps' r' memory' out)
-
 no_step : (e : Effect) → IsNoStep e → is_step e ≡ false
 no_step (steps s write) none = absurd none
 no_step calls none = refl
 no_step (traps code) none = refl
 
-module _ (fixed : Fixed) (maps : List Mapping) (r : Regs) (memory : List (ℕ × List ℕ)) (out : Out) (runs : IsRunnable (running_group fixed maps r memory out)) where
-  -- a step that stores these bytes, or nothing
-  landed_as : (s : Regs) (write : Option Write) → instruction (cells_of memory maps) r ≡ steps s write
-      → group_step true (running_group fixed maps r memory out) fixed.pid ≡ running_group fixed maps s (with_writes memory maps (list_of write)) out
-  landed_as s write is =
-      step_is fixed maps r memory out
-      ∙ ap (after_effect true (running_group fixed maps r memory out) (running_process fixed maps r)) is
-      ∙ goes_on fixed maps r (with_writes memory maps (list_of write)) out s
+one_write : (memory : List (ℕ × List ℕ)) (maps : List Mapping) (write : Write) → with_stored memory maps write.address write.bytes ≡ with_writes memory maps (write ∷ [])
+unfolding with_writes
+one_write memory maps write = refl
 
-  one_write : (s : Regs) (write : Write) → running_group fixed maps s (with_stored memory maps write.address write.bytes) out ≡ running_group fixed maps s (with_writes memory maps (write ∷ [])) out
-  unfolding with_writes
-  one_write s write = refl
+no_write : (memory : List (ℕ × List ℕ)) (maps : List Mapping) → memory ≡ with_writes memory maps []
+unfolding with_writes
+no_write memory maps = refl
 
-  no_write : (s : Regs) → running_group fixed maps s memory out ≡ running_group fixed maps s (with_writes memory maps []) out
-  unfolding with_writes
-  no_write s = refl
+module _ (g : EngineGroup) (runs : IsTrue g.running) (valid : IsRunnable (group_in g)) (r' : Regs) (s : ProcessMemory) where
+  abbrev memory : List (ℕ × List ℕ)
+  memory = memory_in g.memory.objects.items
+
+  abbrev maps : List Mapping
+  maps = g.memory.maps
+
+  abbrev after : EngineGroup
+  after = record g { regs = r'; memory = s }
 
   -- whatever the parts are called, the group is that of these
-  same_parts : (maps' : List Mapping) (r' s : Regs) (memory' stored : List (ℕ × List ℕ)) → table_of memory' maps' ≡ table_of stored maps → r' ≡ s → running_group fixed maps' r' memory' out ≡ running_group fixed maps s stored out
-  same_parts maps' r' s memory' stored table regs =
-      ap (λ (t : Table). running_group fixed t.1 r' t.0 out) table ∙ ap (λ (x : Regs). running_group fixed maps x stored out) regs
+  same_parts : (r : Regs) (stored : List (ℕ × List ℕ)) → table_of (memory_in s.objects.items) s.maps ≡ table_of stored maps → r' ≡ r → group_in after ≡ running_group g.fixed maps r stored g.out
+  same_parts r stored table regs =
+      running_in after runs ∙ ap (λ (t : Table). running_group g.fixed t.1 r' t.0 g.out) table ∙ ap (λ (x : Regs). running_group g.fixed maps x stored g.out) regs
 
-  landed_runs : (s : Regs) (write : Option Write) → instruction (cells_of memory maps) r ≡ steps s write → IsRunnable (running_group fixed maps s (with_writes memory maps (list_of write)) out)
-  landed_runs s write is =
-      let stored = with_writes memory maps (list_of write) in
+  -- a step that stores these bytes, or nothing
+  made : (r : Regs) (stored : List (ℕ × List ℕ)) (write : Option Write) → instruction (cells_in g) g.regs ≡ steps r write → table_of (memory_in s.objects.items) s.maps ≡ table_of stored maps → r' ≡ r
+      → stored ≡ with_writes memory maps (list_of write) → IsTried g after true
+  made r stored write is table regs landing =
+      let here = running_group g.fixed maps g.regs memory g.out in
+      let runnable = runnable_in g runs valid in
+      let left = with_writes memory maps (list_of write) in
+      let same : group_in after ≡ running_group g.fixed maps r left g.out = same_parts r stored table regs ∙ ap (λ (m : List (ℕ × List ℕ)). running_group g.fixed maps r m g.out) landing in
+      let kept = subst GroupIsValid (goes_on g.fixed maps g.regs left g.out r) (instruction_valid here (process_in g) (found_is g.fixed maps g.regs memory g.out) runnable.valid r write is) in
+      let built = running_built g.fixed maps g.regs r memory left g.out g.out runnable.built in
       record {
-        valid = subst GroupIsValid (goes_on fixed maps r stored out s) (instruction_valid (running_group fixed maps r memory out) (running_process fixed maps r) (found_is fixed maps r memory out) runs.valid s write is);
-        built = running_built fixed maps r s memory stored out out runs.built;
+        local = local_in g runs valid ∙ ap is_step is;
+        group = same ∙ sym (ap (λ (h : Group). group_step true h g.fixed.pid) (running_in g runs) ∙ step_is g.fixed maps g.regs memory g.out ∙ ap (after_effect true here (process_in g)) is ∙ goes_on g.fixed maps g.regs left g.out r);
+        running = runs;
+        runnable = subst IsRunnable (sym same) (record { valid = kept; built = built });
+        out = refl;
+        fixed = refl;
       }
 
-  made : (maps' : List Mapping) (r' s : Regs) (memory' stored : List (ℕ × List ℕ)) (write : Option Write) → instruction (cells_of memory maps) r ≡ steps s write → table_of memory' maps' ≡ table_of stored maps → r' ≡ s
-      → running_group fixed maps s stored out ≡ running_group fixed maps s (with_writes memory maps (list_of write)) out → Steps fixed maps r memory out maps' r' memory'
-  made maps' r' s memory' stored write is table regs landing =
-      let same = same_parts maps' r' s memory' stored table regs ∙ landing in
+  pub tried_step : (cells' : Cells) (e : Effect) → instruction (cells_in g) g.regs ≡ e → IsAfterStep e (cells_in g) r' cells' → table_of (memory_in s.objects.items) s.maps ≡ after_landing landed e (table_of memory maps) → IsTried g after true
+  tried_step cells' (steps r None) is left table = made r memory None is table left.0 (no_write memory maps)
+  tried_step cells' (steps r (Some write)) is left table = made r (with_stored memory maps write.address write.bytes) (Some write) is table left.0 (one_write memory maps write)
+  tried_step cells' calls is left table = absurd left
+  tried_step cells' (traps code) is left table = absurd left
+
+  -- no step was made
+  pub tried_none : IsNoStep (instruction (cells_in g) g.regs) → r' ≡ g.regs → table_of (memory_in s.objects.items) s.maps ≡ table_of memory maps → IsTried g after false
+  tried_none none regs table =
+      let same : group_in after ≡ group_in g = same_parts g.regs memory table regs ∙ sym (running_in g runs) in
       record {
-        local = local_is fixed maps r memory out runs ∙ ap is_step is;
-        group = same ∙ sym (landed_as s write is);
-        runnable = subst IsRunnable (sym same) (landed_runs s write is);
-      }
-
-  steps_by : (maps' : List Mapping) (r' : Regs) (memory' : List (ℕ × List ℕ)) (cells' : Cells) (e : Effect) → instruction (cells_of memory maps) r ≡ e → IsAfterStep e (cells_of memory maps) r' cells'
-      → table_of memory' maps' ≡ after_landing landed e (table_of memory maps) → Steps fixed maps r memory out maps' r' memory'
-  steps_by maps' r' memory' cells' (steps s None) is after table = made maps' r' s memory' memory None is table after.0 (no_write s)
-  steps_by maps' r' memory' cells' (steps s (Some write)) is after table = made maps' r' s memory' (with_stored memory maps write.address write.bytes) (Some write) is table after.0 (one_write s write)
-  steps_by maps' r' memory' cells' calls is after table = absurd after
-  steps_by maps' r' memory' cells' (traps code) is after table = absurd after
-
-  pub steps_on : (maps' : List Mapping) (r' : Regs) (memory' : List (ℕ × List ℕ)) (cells' : Cells) → IsAfterStep (instruction (cells_of memory maps) r) (cells_of memory maps) r' cells'
-      → table_of memory' maps' ≡ after_landing landed (instruction (cells_of memory maps) r) (table_of memory maps) → Steps fixed maps r memory out maps' r' memory'
-  steps_on maps' r' memory' cells' after table = steps_by maps' r' memory' cells' (instruction (cells_of memory maps) r) refl after table
-
-  pub stays_there : (maps' : List Mapping) (r' : Regs) (memory' : List (ℕ × List ℕ)) → IsNoStep (instruction (cells_of memory maps) r) → r' ≡ r → table_of memory' maps' ≡ table_of memory maps → Stays fixed maps r memory out maps' r' memory'
-  stays_there maps' r' memory' none regs table =
-      let same = same_parts maps' r' r memory' memory table regs in
-      record {
-        local = local_is fixed maps r memory out runs ∙ no_step (instruction (cells_of memory maps) r) none;
+        local = local_in g runs valid ∙ no_step (instruction (cells_in g) g.regs) none;
         group = same;
-        runnable = subst IsRunnable (sym same) runs;
+        running = runs;
+        runnable = subst IsRunnable (sym same) valid;
+        out = refl;
+        fixed = refl;
       }

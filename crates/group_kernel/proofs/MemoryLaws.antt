@@ -1,20 +1,16 @@
 -- What fits goes on fitting, and a valid group's memory fits.
-use Rattle.std.proofs.Common.{◌≡◌, ℕ, zero, suc, ◌+◌, ◌*◌, ◌<◌, ◌≤◌, ◌==◌, Bool, true, false, List, [], ◌∷◌, length, map, get_or, set, Option, Some, None, refl, sym, ap, ◌∙◌, subst, arith, length-set}
+use Rattle.std.proofs.Common.{◌≡◌, ℕ, ◌+◌, ◌*◌, ◌<◌, ◌≤◌, ◌==◌, Bool, true, false, List, [], ◌∷◌, length, map, get_or, Option, Some, None, refl, sym, ap, ◌∙◌, subst, arith}
 use Rattle.std.specs.Prelude.{if◌then◌else◌, All}
 use Rattle.std.specs.List.{find, AllZip}
-use Rattle.std.specs.Int.{bytes_low_first, byte_at}
 use Rattle.std.proofs.lemmas.List.{get_or-map, length-map}
-use Rattle.std.proofs.lemmas.List.Elements.{All-set, All-nil, All-cons, All-head, All-tail, All-weaker}
-use Rattle.rv64_isa.specs.Memory.{Write}
-use Rattle.rv64_isa.specs.Numbers.{bytes_of, wrapped}
+use Rattle.std.proofs.lemmas.List.Elements.{All-nil, All-cons, All-head, All-weaker}
 use Rattle.group_defs.specs.declared.frame.ObjectRec.{ObjectRec}
 use Rattle.group_defs.specs.declared.frame.Proc.{Proc}
 use Rattle.address_maps.specs.declared.maps.Mapping.{Mapping}
-use Rattle.address_maps.specs.Mappings.{AreApart, has, mapping_at, end_of}
+use Rattle.address_maps.specs.Mappings.{AreApart, has, end_of}
 use Rattle.group_defs.specs.Built.{IsAlone}
-use Rattle.group_defs.specs.Cells.{bytes_in, object_place, with_byte, with_byte_at, with_stored, with_writes, AllInside}
+use Rattle.group_defs.specs.Cells.{bytes_in, AllInside}
 use Rattle.group_defs.specs.Group.{Group}
-use Rattle.tables.specs.Lists.{on_first}
 use Rattle.group_defs.specs.Mappings.{IsUserMapping, IsInside}
 use Rattle.lists.specs.Bytes.{AreBytes}
 use Rattle.tables.specs.Rising.{Rise}
@@ -86,84 +82,6 @@ fits_shape a b maps same bytes fits = record {
   sizes = shape_sizes b (subst (All IsSmall) (sym same) (sizes_shape a fits.sizes));
 }
 
--- ---- what stores leave
-
-shape_byte : (memory : List (ℕ × List ℕ)) (object p b : ℕ) → shape (with_byte memory object p b) ≡ shape memory
-unfolding on_first
-shape_byte [] object p b = refl
-shape_byte (o ∷ os) object p b = by_test (shape_byte os object p b) (o.0 == object) refl
-  where
-    by_test : shape (with_byte os object p b) ≡ shape os → (t : Bool) → (o.0 == object) ≡ t → shape (if t then (object, set o.1 p b) ∷ os else o ∷ with_byte os object p b) ≡ sized o ∷ shape os
-    by_test rest true e =
-        let same : object ≡ o.0 = grind (arith, e) in
-        ap (λ (n : ℕ). (n, length (set o.1 p b)) ∷ shape os) same ∙ ap (λ (n : ℕ). (o.0, n) ∷ shape os) (length-set o.1 p b)
-    by_test rest false e = ap (λ (l : List (ℕ × ℕ)). sized o ∷ l) rest
-
-shape_byte_at : (memory : List (ℕ × List ℕ)) (o : Option Mapping) (a b : ℕ) → shape (with_byte_at memory o a b) ≡ shape memory
-shape_byte_at memory None a b = refl
-shape_byte_at memory (Some m) a b = shape_byte memory m.object (object_place m a) b
-
--- stores leave numbers and lengths
-pub shape_bytes : (memory : List (ℕ × List ℕ)) (maps : List Mapping) (a : ℕ) (bytes : List ℕ) → shape (with_stored memory maps a bytes) ≡ shape memory
-unfolding with_stored
-shape_bytes memory maps a [] = refl
-shape_bytes memory maps a (b ∷ bs) =
-    shape_bytes (with_byte_at memory (mapping_at maps (wrapped a)) (wrapped a) b) maps (a + 1) bs ∙ shape_byte_at memory (mapping_at maps (wrapped a)) (wrapped a) b
-
-pub shape_writes : (memory : List (ℕ × List ℕ)) (maps : List Mapping) (writes : List Write) → shape (with_writes memory maps writes) ≡ shape memory
-unfolding with_writes
-shape_writes memory maps [] = refl
-shape_writes memory maps (w ∷ ws) = shape_writes (with_stored memory maps w.address w.bytes) maps ws ∙ shape_bytes memory maps w.address w.bytes
-
-abbrev HasBytes : ℕ × List ℕ → Type 0
-HasBytes o = AreBytes o.1
-
-byte_set : (xs : List ℕ) (p b : ℕ) → b < 256 → AreBytes xs → AreBytes (set xs p b)
-unfolding AreBytes
-byte_set xs p b small all = All-set (λ x. x < 256) xs p b small all
-
-bytes_byte : (memory : List (ℕ × List ℕ)) (object p b : ℕ) → b < 256 → All HasBytes memory → All HasBytes (with_byte memory object p b)
-unfolding on_first
-bytes_byte [] object p b small all = all
-bytes_byte (o ∷ os) object p b small all = by_test (o.0 == object) (bytes_byte os object p b small (All-tail HasBytes o os all))
-  where
-    by_test : (t : Bool) → All HasBytes (with_byte os object p b) → All HasBytes (if t then (object, set o.1 p b) ∷ os else o ∷ with_byte os object p b)
-    by_test true rest = All-cons HasBytes (object, set o.1 p b) os (byte_set o.1 p b small (All-head HasBytes o os all)) (All-tail HasBytes o os all)
-    by_test false rest = All-cons HasBytes o (with_byte os object p b) (All-head HasBytes o os all) rest
-
-bytes_byte_at : (memory : List (ℕ × List ℕ)) (o : Option Mapping) (a b : ℕ) → b < 256 → All HasBytes memory → All HasBytes (with_byte_at memory o a b)
-bytes_byte_at memory None a b small all = all
-bytes_byte_at memory (Some m) a b small all = bytes_byte memory m.object (object_place m a) b small all
-
-bytes_stay : (memory : List (ℕ × List ℕ)) (maps : List Mapping) (a : ℕ) (bytes : List ℕ) → AreBytes bytes → All HasBytes memory → All HasBytes (with_stored memory maps a bytes)
-unfolding with_stored AreBytes
-bytes_stay memory maps a [] small all = all
-bytes_stay memory maps a (b ∷ bs) small all =
-    bytes_stay (with_byte_at memory (mapping_at maps (wrapped a)) (wrapped a) b) maps (a + 1) bs (All-tail (λ x. x < 256) b bs small) (bytes_byte_at memory (mapping_at maps (wrapped a)) (wrapped a) b (All-head (λ x. x < 256) b bs small) all)
-
--- stores of bytes keep what fits
-pub fits_bytes : (memory : List (ℕ × List ℕ)) (maps : List Mapping) (a : ℕ) (bytes : List ℕ) → AreBytes bytes → TableFits memory maps → TableFits (with_stored memory maps a bytes) maps
-fits_bytes memory maps a bytes small fits = fits_shape memory (with_stored memory maps a bytes) maps (shape_bytes memory maps a bytes) (bytes_stay memory maps a bytes small fits.bytes) fits
-
-pub fits_writes : (memory : List (ℕ × List ℕ)) (maps : List Mapping) (writes : List Write) → All (λ w. AreBytes w.bytes) writes → TableFits memory maps → TableFits (with_writes memory maps writes) maps
-unfolding with_writes
-fits_writes memory maps [] small fits = fits
-fits_writes memory maps (w ∷ ws) small fits =
-    fits_writes (with_stored memory maps w.address w.bytes) maps ws (All-tail (λ (v : Write). AreBytes v.bytes) w ws small) (fits_bytes memory maps w.address w.bytes (All-head (λ (v : Write). AreBytes v.bytes) w ws small) fits)
-
-byte_small : (i v : ℕ) → byte_at i v < 256
-byte_small zero v = omega arith
-byte_small (suc i) v = omega arith
-
-low_first : (i n v : ℕ) → AreBytes (bytes_low_first i n v)
-unfolding AreBytes
-low_first i zero v = All-nil (λ x. x < 256)
-low_first i (suc n) v = All-cons (λ x. x < 256) (byte_at i v) (bytes_low_first (suc i) n v) (byte_small i v) (low_first (suc i) n v)
-
--- a number's bytes are bytes
-pub value_bytes : (n v : ℕ) → AreBytes (bytes_of n v)
-value_bytes n v = low_first 0 n v
-
 -- ---- places
 
 -- each mapped address lies inside its object
@@ -175,6 +93,9 @@ inside_of memory maps fits a m found =
     omega (arith, here.0, low, high)
 
 -- ---- valid groups
+
+abbrev HasBytes : ℕ × List ℕ → Type 0
+HasBytes o = AreBytes o.1
 
 abbrev whole : ObjectRec → ℕ × ℕ
 whole o = (o.number, 4096 * o.pages)

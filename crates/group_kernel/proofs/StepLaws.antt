@@ -1,6 +1,6 @@
 -- A step of the process that runs.
-use Rattle.std.proofs.Common.{◌≡◌, ℕ, ◌==◌, Bool, true, false, List, [], ◌∷◌, Option, Some, None, refl, ap, ◌∙◌, arith, rules}
-use Rattle.std.specs.Prelude.{if◌then◌else◌, All}
+use Rattle.std.proofs.Common.{◌≡◌, ℕ, ◌==◌, Bool, true, false, List, [], ◌∷◌, Option, Some, None, refl, ap, sym, subst, ◌∙◌, arith, rules}
+use Rattle.std.specs.Prelude.{if◌then◌else◌, All, IsTrue}
 use Rattle.std.specs.List.{cons_option, filter, find}
 use Rattle.std.proofs.Math.Path.{fun_ext}
 use Rattle.rv64_isa.specs.declared.regs.Regs.{Regs}
@@ -21,8 +21,11 @@ use Rattle.group_defs.specs.Held.{is_held, is_kept, settled}
 use Rattle.tables.specs.Lists.{on_first}
 use Rattle.group_defs.specs.Objects.{is_of_file}
 use Rattle.group_defs.specs.Step.{after_effect, continued, effect_in, group_step, is_local, is_local_at}
-use Rattle.group_kernel.specs.Engine.{running_process, running_group, ended_group, frame_with, IsRunnable}
+use Rattle.group_kernel.specs.Engine.{cells_in, ended_group, frame_with, group_in, process_in, running_group, running_process, IsRunnable}
+use Rattle.group_kernel.specs.Memory.{memory_in}
+use Rattle.group_kernel.specs.declared.engine_group.EngineGroup.{EngineGroup}
 use Rattle.group_kernel.specs.declared.engine_group.Fixed.{Fixed}
+use Rattle.group_kernel.proofs.EngineLaws.{running_in, runnable_in}
 use Rattle.group_kernel.proofs.MemoryReads.{found_has}
 
 -- ---- one process
@@ -82,11 +85,6 @@ module _ (fixed : Fixed) (maps : List Mapping) (r : Regs) (memory : List (ℕ ×
       stepped : Option Proc → Group
       stepped o = elim o [ None ↦ running_group fixed maps r memory out | Some p ↦ after_effect true (running_group fixed maps r memory out) p (effect_in (running_group fixed maps r memory out) p) ]
 
--- the same for a group that is that of these parts
-pub continues : (h : Group) (fixed : Fixed) (maps : List Mapping) (r : Regs) (memory : List (ℕ × List ℕ)) (out : Out) → h ≡ running_group fixed maps r memory out → (r' : Regs)
-    → continued h (running_process fixed maps r) r' ≡ running_group fixed maps r' memory out
-continues h fixed maps r memory out is r' = ap (λ (x : Group). continued x (running_process fixed maps r) r') is ∙ goes_on fixed maps r memory out r'
-
 -- ---- all of its memory is private
 
 private_by : (memory : List (ℕ × List ℕ)) (a : ℕ) (o : Option Mapping) → ((m : Mapping) → o ≡ Some m → m.shared ≡ false)
@@ -112,3 +110,21 @@ module _ (fixed : Fixed) (maps : List Mapping) (r : Regs) (memory : List (ℕ ×
     where
       local : Option Proc → Bool
       local o = elim o [ None ↦ false | Some p ↦ is_local_at (running_group fixed maps r memory out) p ]
+
+-- ---- the same of the engine's group
+
+module _ (g : EngineGroup) (runs : IsTrue g.running) where
+  abbrev table : List (ℕ × List ℕ)
+  table = memory_in g.memory.objects.items
+
+  pub continued_in : (r : Regs) → group_in (record g { regs = r }) ≡ continued (group_in g) (process_in g) r
+  continued_in r = running_in (record g { regs = r }) runs ∙ sym (ap (λ (h : Group). continued h (process_in g) r) (running_in g runs) ∙ goes_on g.fixed g.memory.maps g.regs table g.out r)
+
+  pub ends_in : (status : ℕ) → ended_group g.fixed.next g.out ≡ ended (group_in g) (process_in g) status
+  ends_in status = sym (ap (λ (h : Group). ended h (process_in g) status) (running_in g runs) ∙ ends_all g.fixed g.memory.maps g.regs table g.out status)
+
+  pub step_in : group_step true (group_in g) g.fixed.pid ≡ after_effect true (group_in g) (process_in g) (instruction (cells_in g) g.regs)
+  step_in = subst (λ (h : Group). group_step true h g.fixed.pid ≡ after_effect true h (process_in g) (instruction (cells_in g) g.regs)) (sym (running_in g runs)) (step_is g.fixed g.memory.maps g.regs table g.out)
+
+  pub local_in : IsRunnable (group_in g) → is_local (group_in g) g.fixed.pid ≡ is_step (instruction (cells_in g) g.regs)
+  local_in runnable = ap (λ (h : Group). is_local h g.fixed.pid) (running_in g runs) ∙ local_is g.fixed g.memory.maps g.regs table g.out (runnable_in g runs runnable)

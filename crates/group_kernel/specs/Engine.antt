@@ -13,6 +13,7 @@ use Rattle.descriptors.specs.declared.opens.Open.{Open}
 use Rattle.group_defs.specs.Built.{OnlyBuilt}
 use Rattle.group_defs.specs.Cells.{cells_of}
 use Rattle.group_defs.specs.Group.{Group}
+use Rattle.group_defs.specs.Standing.{Standing, State}
 use Rattle.group_defs.specs.Valid.{GroupIsValid}
 use Rattle.group_kernel.specs.Memory.{memory_in}
 use Rattle.group_kernel.specs.declared.engine_group.EngineGroup.{EngineGroup}
@@ -58,6 +59,10 @@ abbrev pub group_in : EngineGroup → Group
 group_in g =
     if g.running then running_group g.fixed g.memory.maps g.regs (memory_in g.memory.objects.items) g.out
     else ended_group g.fixed.next g.out
+
+-- it with a standing beside it, which no call that is served reads
+abbrev pub state_in : EngineGroup → Standing → State
+state_in g standing = record { group = group_in g; standing = standing }
 
 -- a valid group of what is built
 pub record IsRunnable (g : Group) : Type 0 where

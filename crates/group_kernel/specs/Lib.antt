@@ -4,3 +4,4 @@ pub mod Memory
 -- What only private functions say.
 pub mod Descriptors
 pub mod Placing
+pub mod Turning

@@ -1,18 +1,18 @@
 //! The system calls of the process.
-ghost use Rattle.std.specs.Prelude.{◌≡◌, ◌≤◌, ◌-◌, ◌^◌, ◌==◌, ◌&&◌, ◌↔◌, true, false, IsTrue, OnOk};
+ghost use Rattle.std.specs.Prelude.{◌≡◌, ◌≤◌, ◌-◌, ◌^◌, ◌==◌, ◌↔◌, true, false, IsTrue, OnOk};
 ghost use Rattle.std.specs.List.{find};
 ghost use Rattle.std.specs.Option.{option_map};
 ghost use Rattle.rv64_isa.specs.Instruction.{instruction, calls};
 ghost use Rattle.rv64_isa.specs.Memory.{readable};
 ghost use Rattle.rv64_isa.specs.Numbers.{low_word};
-ghost use Rattle.rv64_isa.specs.Registers.{a0, a1, a2, answered, call_number};
+ghost use Rattle.rv64_isa.specs.Registers.{a1, a2, answered};
 ghost use Rattle.group_defs.specs.Changes.{open_at};
-ghost use Rattle.group_defs.specs.Output.{room};
 ghost use Rattle.group_defs.specs.ReadWrite.{put_outside, write_outside};
-ghost use Rattle.group_defs.specs.Step.{after_reply, continued, group_step, group_waits, is_local, is_wait, reply_to};
+ghost use Rattle.group_defs.specs.Standing.{Standing};
+ghost use Rattle.group_defs.specs.Step.{after_reply, continued, group_step, is_local, is_waiting, reply_to};
 ghost use Rattle.descriptors.specs.Descriptors.{number_at};
-ghost use Rattle.group_kernel.specs.Descriptors.{is_at_outside};
-ghost use Rattle.group_kernel.specs.Engine.{cells_in, ended_group, group_in, process_in, IsRunnable};
+ghost use Rattle.group_kernel.specs.Descriptors.{is_at_outside, must_wait, writes_outside};
+ghost use Rattle.group_kernel.specs.Engine.{cells_in, ended_group, group_in, process_in, state_in, IsRunnable};
 
 use crate::engine_group::{EngineGroup, Fixed};
 use group_defs::calls::{EBADF, EFAULT, ENOSYS, EXIT, EXIT_GROUP, WRITE};
@@ -65,17 +65,15 @@ fn is_outside(fixed: &Fixed, register: u64) -> bool
 
 /// Whether a call writes to the outside.
 fn writes_outside(fixed: &Fixed, regs: &Regs) -> bool
-    ensures { result ≡ ((call_number regs.now == 64) && is_at_outside
-        (open_at fixed.now.fds fixed.now.opens (low_word (a0 regs.now)))) }
+    ensures { result ≡ writes_outside fixed.now regs.now }
 {
     regs.get(17) == WRITE && is_outside(fixed, regs.get(10))
 }
 
 /// Whether the call that the process stands at must wait: it writes bytes to the outside, which has no room.
 fn must_wait(g: &EngineGroup) -> bool
-    requires running { IsTrue g.now.running }
-    requires runnable { IsRunnable (group_in g.now) }
-    ensures { result ≡ is_wait (reply_to true (group_in g.now) (process_in g.now)) }
+    requires { IsRunnable (group_in g.now) }
+    ensures { result ≡ must_wait g.now }
 {
     writes_outside(&g.fixed, &g.regs) && g.regs.get(12) != 0 && g.room() == 0
 }
@@ -83,7 +81,8 @@ fn must_wait(g: &EngineGroup) -> bool
 /// Whether the process runs, and stands at a system call that must wait.
 pub fn is_waiting(g: &EngineGroup) -> bool
     requires { IsRunnable (group_in g.now) }
-    ensures { result ≡ group_waits true (group_in g.now) g.now.fixed.pid }
+    ensures { (standing : Standing)
+        → result ≡ is_waiting (state_in g.now standing) g.now.fixed.pid }
 {
     g.running && is_at_call(g) && must_wait(g)
 }

@@ -4,7 +4,7 @@ ghost use Rattle.ckpt_records.specs.Holds.{IsCheckpointed};
 ghost use Rattle.ckpt_records.specs.Pages.{ArePagesOf};
 ghost use Rattle.std.specs.List.{AllByRecursion};
 ghost use Rattle.group_defs.specs.Output.{last_position};
-ghost use Rattle.run_defs.specs.Trace.{barrier};
+ghost use Rattle.group_defs.specs.Standing.{group_barrier};
 ghost use Rattle.group_defs.specs.Valid.{GroupIsValid};
 ghost use Rattle.group_kernel.specs.Engine.{frame_with, group_in, running_process, IsRunnable};
 ghost use Rattle.group_kernel.specs.Placing.{is_zero as all_zero, memory_pages, object_pages as all_pages_of};
@@ -50,7 +50,7 @@ fn move_mark(alloc: Global, g: &mut EngineGroup)
     requires from { g.old.out.from ≤ g.old.out.mark }
     requires mark { g.old.out.mark ≤ last_position g.old.out }
     requires last { last_position g.old.out < 2 ^ 64 }
-    ensures group { group_in g.new ≡ barrier (group_in g.old) }
+    ensures group { group_in g.new ≡ group_barrier (group_in g.old) }
     ensures fixed { g.new.fixed ≡ g.old.fixed }
 {
     let dropped = (g.out.mark - g.out.from) as usize;
@@ -66,7 +66,7 @@ fn move_mark(alloc: Global, g: &mut EngineGroup)
 /// Makes the barrier: the bytes before the mark are dropped, and the mark becomes the last position. No memory is taken.
 pub fn mark_output(alloc: Global, g: &mut EngineGroup)
     requires { IsRunnable (group_in g.old) }
-    ensures group { group_in g.new ≡ barrier (group_in g.old) }
+    ensures group { group_in g.new ≡ group_barrier (group_in g.old) }
     ensures checkpointed { IsCheckpointed (group_in g.new) }
     ensures fixed { g.new.fixed ≡ g.old.fixed }
 {

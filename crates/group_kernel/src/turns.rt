@@ -1,10 +1,12 @@
 //! Turns of the process.
-ghost use Rattle.std.specs.Prelude.{◌≡◌, ◌≤◌, ◌<◌, ◌+◌, ◌^◌, true, false, if◌then◌else◌, [], ◌∷◌, IfOk, OnOk, IsTrue};
+ghost use Rattle.std.specs.Prelude.{◌≡◌, ◌≤◌, ◌<◌, ◌+◌, ◌^◌, false, if◌then◌else◌, [], ◌∷◌, IfOk, OnOk, IsTrue};
 ghost use Rattle.run_defs.specs.Legal.{ready};
 ghost use Rattle.group_defs.specs.Output.{last_position};
-ghost use Rattle.group_defs.specs.Step.{group_step, group_waits, is_local};
-ghost use Rattle.run_defs.specs.Turns.{steps_of, AllLocal, IsTurn, turned};
-ghost use Rattle.group_kernel.specs.Engine.{group_in, IsRunnable};
+ghost use Rattle.group_defs.specs.Standing.{Standing};
+ghost use Rattle.group_defs.specs.Step.{is_local, is_waiting};
+ghost use Rattle.run_defs.specs.Turns.{IsTurn, turned};
+ghost use Rattle.group_kernel.specs.Engine.{group_in, state_in, IsRunnable};
+ghost use Rattle.group_kernel.specs.Turning.{HasStepped, IsTried};
 
 use crate::calls::{is_waiting, other_step};
 use crate::engine_group::EngineGroup;
@@ -15,13 +17,7 @@ use rv64_core::{Local, local_step};
 fn step_if_local(g: &mut EngineGroup) -> Result<bool, NoMemory>
     requires running { IsTrue g.old.running }
     requires runnable { IsRunnable (group_in g.old) }
-    ensures local { IfOk result (λ stepped. is_local (group_in g.old) g.old.fixed.pid ≡ stepped) }
-    ensures group { IfOk result (λ stepped. group_in g.new
-        ≡ (if stepped then group_step true (group_in g.old) g.old.fixed.pid else group_in g.old)) }
-    ensures running { OnOk result (IsTrue g.new.running) }
-    ensures runnable { OnOk result (IsRunnable (group_in g.new)) }
-    ensures out { OnOk result (g.new.out ≡ g.old.out) }
-    ensures fixed { OnOk result (g.new.fixed ≡ g.old.fixed) }
+    ensures { IfOk result (IsTried g.old g.new) }
 {
     match local_step(&mut g.regs, &mut g.memory) {
         Local::Stepped => Ok(true),
@@ -35,15 +31,9 @@ fn local_steps(g: &mut EngineGroup, quantum: u32) -> Result<u32, NoMemory>
     requires running { IsTrue g.old.running }
     requires runnable { IsRunnable (group_in g.old) }
     ensures within { IfOk result (λ n. n ≤ quantum) }
-    ensures group { IfOk result (λ n. group_in g.new
-        ≡ steps_of (group_in g.old) g.old.fixed.pid n) }
-    ensures all_local { IfOk result (λ n. AllLocal (group_in g.old) g.old.fixed.pid n) }
+    ensures stepped { IfOk result (HasStepped g.old g.new) }
     ensures stops { IfOk result (λ n. n < quantum
-        → is_local (group_in g.new) g.old.fixed.pid ≡ false) }
-    ensures running { OnOk result (IsTrue g.new.running) }
-    ensures runnable { OnOk result (IsRunnable (group_in g.new)) }
-    ensures out { OnOk result (g.new.out ≡ g.old.out) }
-    ensures fixed { OnOk result (g.new.fixed ≡ g.old.fixed) }
+        → is_local (group_in g.new) g.new.fixed.pid ≡ false) }
 {
     for n in 0..quantum {
         if !step_if_local(g)? {
@@ -58,9 +48,10 @@ pub fn turn(g: &mut EngineGroup, quantum: u32) -> Result<u32, NoMemory>
     requires running { IsTrue g.old.running }
     requires runnable { IsRunnable (group_in g.old) }
     requires room { last_position g.old.out + 1048576 < 2 ^ 63 }
-    ensures turn { IfOk result (λ n. IsTurn quantum (group_in g.old) g.old.fixed.pid n) }
-    ensures group { IfOk result (λ n. group_in g.new
-        ≡ turned quantum (group_in g.old) g.old.fixed.pid n) }
+    ensures turn { IfOk result (λ n. (standing : Standing)
+        → IsTurn quantum (state_in g.old standing) g.old.fixed.pid n) }
+    ensures group { IfOk result (λ n. (standing : Standing) → group_in g.new
+        ≡ (turned quantum (state_in g.old standing) g.old.fixed.pid n).group) }
     ensures runnable { OnOk result (IsRunnable (group_in g.new)) }
     ensures grown { OnOk result (last_position g.new.out ≤ last_position g.old.out + 1048576) }
     ensures same_marks { OnOk result ((g.new.out.from ≡ g.old.out.from)
@@ -77,9 +68,11 @@ pub fn turn(g: &mut EngineGroup, quantum: u32) -> Result<u32, NoMemory>
 /// Whether the process runs and doesn't wait.
 pub fn is_ready(g: &EngineGroup) -> bool
     requires { IsRunnable (group_in g.now) }
-    ensures ready { ready (group_in g.now) ≡ (if result then g.now.fixed.pid ∷ [] else []) }
+    ensures ready { (standing : Standing) → ready (state_in g.now standing)
+        ≡ (if result then g.now.fixed.pid ∷ [] else []) }
     ensures running { IsTrue result → IsTrue g.now.running }
-    ensures acts { IsTrue result → group_waits true (group_in g.now) g.now.fixed.pid ≡ false }
+    ensures acts { IsTrue result → (standing : Standing)
+        → is_waiting (state_in g.now standing) g.now.fixed.pid ≡ false }
 {
     g.running && !is_waiting(g)
 }

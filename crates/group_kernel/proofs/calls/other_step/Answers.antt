@@ -1,22 +1,14 @@
 use Rattle.std.proofs.Common.{◌≡◌, OnOk, subst, ◌∙◌}
 use Rattle.group_defs.specs.Group.{Group}
-use Rattle.group_kernel.specs.Engine.{group_in, IsRunnable}
-use Rattle.group_kernel.specs.Memory.{memory_in}
+use Rattle.group_kernel.specs.Engine.{group_in}
 use Rattle.group_kernel.proofs.CallLaws.{step_calls, step_ends}
-use Rattle.group_kernel.proofs.TurnLaws.{running_is}
 use Rattle.group_kernel.proofs.calls.other_step.Goals as goal
 
 pub returns-then-is_at_call-clause-ok : goal.returns-then-is_at_call-clause-ok
 returns-then-is_at_call-clause-ok c =
-    let g = c.args.g.now in
-    let memory = memory_in g.memory.objects.items in
     let P : Group → Type 0 = λ h. OnOk c.call.result (group_in c.call.new.g ≡ h) in
-    subst P (step_calls (group_in g) (group_in g) g.fixed g.memory.maps g.regs memory g.out (running_is g.running g.fixed g.memory.maps g.regs memory g.out c.requires.running) (c.is_at_call.ensures.0 c.if-is_at_call.true)) c.call.ensures.ok
+    subst P (step_calls c.args.g.now c.requires.running (c.is_at_call.ensures.0 c.if-is_at_call.true)) c.call.ensures.ok
 
 pub returns-clause-ok : goal.returns-clause-ok
 returns-clause-ok c =
-    let g = c.args.g.now in
-    let memory = memory_in g.memory.objects.items in
-    let is = running_is g.running g.fixed g.memory.maps g.regs memory g.out c.requires.running in
-    c.end.ensures.gone
-    ∙ step_ends (group_in g) (group_in g) g.fixed g.memory.maps g.regs memory g.out is (subst IsRunnable is c.requires.runnable) c.requires.other (λ call. absurd (cc (c.is_at_call.ensures.1 call, c.if-is_at_call.false)))
+    c.end.ensures.gone ∙ step_ends c.args.g.now c.requires.running c.requires.runnable c.requires.other (λ call. absurd (cc (c.is_at_call.ensures.1 call, c.if-is_at_call.false)))

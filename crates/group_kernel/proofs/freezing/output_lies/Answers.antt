@@ -1,13 +1,7 @@
-use Rattle.std.proofs.Common.{◌≤◌, ◌<◌, ◌^◌, subst}
-use Rattle.group_defs.specs.Output.{last_position}
-use Rattle.group_defs.specs.declared.frame.Out.{Out}
-use Rattle.group_kernel.proofs.BarrierLaws.{out_bounds}
-use Rattle.group_kernel.proofs.EngineLaws.{out_in}
-use Rattle.group_kernel.specs.Engine.{group_in}
+use Rattle.group_defs.specs.Valid.{OutValid}
+use Rattle.group_kernel.proofs.EngineLaws.{output_valid}
 use Rattle.group_kernel.proofs.freezing.output_lies.Goals as goal
 
 pub returns : goal.returns
-returns c =
-    let g = c.args._g.now in
-    let b = subst (λ (o : Out). (o.from ≤ o.mark) × (o.mark ≤ last_position o) × (last_position o < 2 ^ 64)) (out_in g) (out_bounds (group_in g) c.requires.valid) in
-    record { from = b.0; mark = b.1; last = b.2 }
+unfolding OutValid
+returns c = let v = output_valid c.args._g.now c.requires in record { from = v.0; mark = v.1; last = v.2 }
