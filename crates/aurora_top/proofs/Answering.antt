@@ -1,23 +1,33 @@
 -- A command's run, from the run that began after its opening.
-use Rattle.std.proofs.Common.{◌≡◌, inl, inr, ⊎_elim, ℕ, ◌≤◌, false, List, [], ◌∷◌, Some, refl, sym, ap, ◌∙◌, subst, arith}
-use Rattle.std.specs.List.{list_any}
-use Rattle.std.specs.Option.{ForSome}
+use Rattle.std.proofs.Common.{◌≡◌, inl, inr, ⊎_elim, ℕ, ◌≤◌, List, [], ◌∷◌, ◌++◌, map, Option, Some, refl, sym, ap, ◌∙◌, subst, arith, append-nil}
+use Rattle.std.specs.List.{fold}
+use Rattle.std.specs.Option.{ForSome, option_map}
+use Rattle.dev_traits.specs.Commits.{Commits}
 use Rattle.dev_traits.specs.Disk.{DiskView}
 use Rattle.dev_traits.specs.Outside.{FilesView, SinkView}
+use Rattle.group_defs.specs.Group.{Group}
+use Rattle.group_defs.specs.Output.{last_position}
+use Rattle.run_defs.specs.Legal.{Legal}
+use Rattle.run_defs.specs.Marks.{acked_epochs, turns_in}
+use Rattle.run_defs.specs.Progress.{Progress, after_mark, progress_after, progress_at}
 use Rattle.run_defs.specs.declared.run.AckMark.{AckMark}
 use Rattle.run_defs.specs.declared.run.Limits.{Limits}
 use Rattle.run_defs.specs.declared.run.Mark.{Mark}
-use Rattle.group_defs.specs.Group.{Group}
-use Rattle.group_defs.specs.Output.{last_position}
-use Rattle.run_defs.specs.Trace.{turns_in, is_fetch}
-use Rattle.sls_core.specs.Answers.{EndsFor, IsSoloRun}
+use Rattle.run_defs.specs.declared.run.Mark.TheVariants.{Take, Turn, Barrier, Fetch, Ack}
+use Rattle.run_laws.proofs.CountLaws.{turns_counted}
+use Rattle.run_laws.proofs.Epochs.{epochs_have_groups}
+use Rattle.run_laws.proofs.LegalLaws.{in_order}
+use Rattle.run_laws.proofs.TurnLaws.{turn_epochs}
 use Rattle.ckpt_records.specs.Origin.{IsWithin}
-use Rattle.sls_core.specs.Safe.{HoldsOne, IsUnwritten, NeverFall, RunSoFar, Safe, last_epoch, last_group, run_of}
+use Rattle.commit_gate.specs.Whole.{calls_more}
+use Rattle.sls_core.specs.Answers.{EndsFor, IsSoloRun}
+use Rattle.sls_core.specs.Committed.{AreCommitsOf, IsOnlyCommitted, TellsMore, WholeCommit, calls_of, images_after, told_commit}
+use Rattle.sls_core.specs.Safe.{HoldsOne, IsUnwritten, NeverFall, RunSoFar, Safe, last_acked, last_group, run_of}
 use Rattle.sls_core.specs.declared.run.RunAnswer.{RunAnswer}
 use Rattle.sls_core.specs.declared.run.RunAnswer.TheVariants as answers
 use Rattle.aurora_top.specs.Answers.{IsRunEnding}
 use Rattle.aurora_top.specs.Beginnings.{BeginsWith, CanBegin, SuitsDisk}
-use Rattle.aurora_top.specs.Ending.{end_for}
+use Rattle.aurora_top.specs.Ending.{end_for, last_epoch}
 use Rattle.aurora_top.specs.Opening.{IsOpenedAt}
 use Rattle.aurora_top.proofs.OpeningLaws.{none_after, unchanged_then}
 use Rattle.command_words.specs.declared.words.Command.{Command}
@@ -55,10 +65,63 @@ told_position run opened disk out out' (answers.DiskFull need free) epoch turns 
 told_position run opened disk out out' answers.NoMemory epoch turns e = refl
 
 -- the disk before the run is among what it may hold
-holds_first : (beginning : Beginning (List ℕ)) (disk : DiskView) (files : FilesView) (limits : Limits) (start : Group) (epoch : ℕ) (trace : List Mark) → SuitsDisk beginning disk → BeginsWith beginning disk files start epoch
+holds_first : (beginning : Beginning (List ℕ)) (disk : DiskView) (files : FilesView) (limits : Limits) (start : Group) (epoch : ℕ) (trace : List Mark) → Legal start epoch limits trace → SuitsDisk beginning disk → BeginsWith beginning disk files start epoch
     → ForSome disk.reading (HoldsOne (run_of limits start epoch trace))
-holds_first (Manifest manifest) disk files limits start epoch trace suits begins = λ r told. inr (inr (begins.3, suits r told))
-holds_first Checkpoint disk files limits start epoch trace suits begins = λ r told. inr (inl (begins.0 r told))
+holds_first (Manifest manifest) disk files limits start epoch trace legal suits begins = λ r told. inr (begins.3, suits r told)
+holds_first Checkpoint disk files limits start epoch trace legal suits begins = λ r told.
+    let o = in_order start epoch limits trace legal in
+    inl (epoch, record { fetched = omega (arith, o.begins, o.fetched); group = start; group_is = (epochs_have_groups start epoch limits).first trace; held = begins.0 r told })
+
+-- the commits of a run, over the opening too
+tells_from : (commits : List WholeCommit) (before opened disk : DiskView) → IsUnwritten before opened → TellsMore commits opened disk → TellsMore commits before disk
+tells_from commits before opened disk un t = record {
+  told = λ now. elim (un.commits (inr now)) [
+    | inl same ↦
+        let is = t.told (ap (λ c. c.now) same ∙ now) in
+        (is.0, is.1, is.2, is.3 ∙ ap (λ (c : Commits). c.ended ++ map told_commit is.0) same, is.4)
+    | inr less ↦
+        let is = t.untold (ap (λ c. c.now) less) in
+        ([], commits, refl, ap (λ c. c.ended) (is ∙ less) ∙ sym (append-nil before.commits.ended), inl (ap (λ c. c.now) (is ∙ less)))
+  ];
+  untold = λ none. elim (un.commits (inl none)) [
+    | inl same ↦ t.untold (ap (λ c. c.now) same ∙ none) ∙ same
+    | inr less ↦ t.untold (ap (λ c. c.now) less) ∙ less ∙ ap (λ now. record { ended = before.commits.ended; now = now }) (sym none)
+  ];
+}
+
+committed_from : (run : RunSoFar) (acks : List AckMark) (before opened disk : DiskView) → IsUnwritten before opened → IsOnlyCommitted run acks opened disk → IsOnlyCommitted run acks before disk
+committed_from run acks before opened disk un o = record {
+  commits = o.commits;
+  each = subst (λ (r : Option (List ℕ)). AreCommitsOf run r acks o.commits) un.reading o.each;
+  writes = o.writes ∙ ap (calls_more (calls_of o.commits)) un.writes;
+  reads = o.reads ∙ ap (option_map (images_after o.commits)) un.reading;
+  only = o.only;
+  told = tells_from o.commits before opened disk un o.told;
+}
+
+-- ---- the numbers of an end
+
+abbrev last_of : ℕ → List ℕ → ℕ
+last_of epoch epochs = fold (λ so_far e. e) epoch epochs
+
+acked_is : (quantum : ℕ) (r : Progress) (marks : List Mark) → (progress_after quantum r marks).state.standing.acked ≡ last_of r.state.standing.acked (acked_epochs marks)
+acked_is quantum r [] = refl
+acked_is quantum r (Take worker pid ∷ ms) = acked_is quantum (after_mark quantum r (Take worker pid)) ms
+acked_is quantum r (Turn worker pid n ∷ ms) = acked_is quantum (after_mark quantum r (Turn worker pid n)) ms ∙ ap (λ (e : ℕ). last_of e (acked_epochs ms)) (turn_epochs quantum r.state pid n).1
+acked_is quantum r (Barrier epoch ∷ ms) = acked_is quantum (after_mark quantum r (Barrier epoch)) ms
+acked_is quantum r (Fetch epoch ∷ ms) = acked_is quantum (after_mark quantum r (Fetch epoch)) ms
+acked_is quantum r (Ack epoch ∷ ms) = acked_is quantum (after_mark quantum r (Ack epoch)) ms
+
+last_is : (epoch : ℕ) (acks : List AckMark) → last_epoch epoch acks ≡ last_of epoch (map (λ a. a.epoch) acks)
+last_is epoch [] = refl
+last_is epoch (a ∷ acks) = last_is a.epoch acks
+
+-- the epoch and the turns that the call counts are the run's
+told_numbers : (limits : Limits) (start : Group) (epoch : ℕ) (trace : List Mark) (acks : List AckMark) (answer : RunAnswer) (output : ℕ) → map (λ a. a.epoch) acks ≡ acked_epochs trace
+    → end_for answer (last_epoch epoch acks) (turns_in trace) output ≡ end_for answer (last_acked (run_of limits start epoch trace)) (run_of limits start epoch trace).now.turns output
+told_numbers limits start epoch trace acks answer output are =
+    ap (λ (e : ℕ). end_for answer e (turns_in trace) output) (last_is epoch acks ∙ ap (last_of epoch) are ∙ sym (acked_is limits.quantum (progress_at epoch start) trace))
+    ∙ ap (λ (n : ℕ). end_for answer (last_acked (run_of limits start epoch trace)) n output) (sym (turns_counted limits.quantum epoch start trace))
 
 -- The run of a disk that was opened before it, from before the opening on.
 module _ (run : RunSoFar) (before opened disk : DiskView) (out out' : SinkView) (at : ℕ) (acks : List AckMark) (answer : RunAnswer)
@@ -86,7 +149,7 @@ module _ (run : RunSoFar) (before opened disk : DiskView) (out out' : SinkView) 
         ((ran.safe.stands.safe r (told r is)).entered t left (earlier t le) since);
   }
 
-  unfetched : list_any is_fetch run.trace ≡ false → IsUnwritten before disk
+  unfetched : run.now.fetched ≡ run.origin → IsUnwritten before disk
   unfetched none =
       let still = ran.safe.stands.unfetched none in
       record {
@@ -119,7 +182,7 @@ module _ (run : RunSoFar) (before opened disk : DiskView) (out out' : SinkView) 
       ends = ends_as run before opened disk out out' answer unwritten.later ran.safe.ends;
     };
     current = λ no_fault r told. ran.current no_fault r (unwritten.reading ∙ told);
-    none_given_up = λ no_fault. omega (arith, ran.none_given_up no_fault, unwritten.writes);
+    none_given_up = λ no_fault. committed_from run acks before opened disk unwritten (ran.none_given_up no_fault);
     order = ran.order;
     whole = ran.whole;
   }
@@ -138,8 +201,9 @@ was_run words before opened disk files out out' at command start epoch trace ack
       within = within;
       answer = answer;
       run = since_opening run before opened disk out out' at acks answer
-          (holds_first command.beginning before files command.limits start epoch trace begins.suits begins.begins) opening unwritten ran;
-      end_is = told_position run opened disk out out' answer (last_epoch epoch acks) (turns_in trace) ran.safe.ends;
+          (holds_first command.beginning before files command.limits start epoch trace ran.safe.legal begins.suits begins.begins) opening unwritten ran;
+      end_is = told_position run opened disk out out' answer (last_epoch epoch acks) (turns_in trace) ran.safe.ends
+          ∙ told_numbers command.limits start epoch trace acks answer (last_position (last_group run).frame.out) ran.safe.stands.acked.epochs;
     }
 
 -- the moment of its opening lies between the call's and the answer's

@@ -6,7 +6,6 @@ use Rattle.run_defs.specs.declared.run.AckMark.{AckMark}
 use Rattle.group_defs.specs.Group.{Group}
 use Rattle.run_defs.specs.declared.run.Mark.{Mark}
 use Rattle.group_defs.specs.Output.{last_position}
-use Rattle.run_defs.specs.Trace.{turns_in}
 use Rattle.sls_core.specs.Answers.{IsSoloRun}
 use Rattle.sls_core.specs.Safe.{IsUnwritten, last_acked, last_group, run_of}
 use Rattle.ckpt_records.specs.Origin.{IsWithin}
@@ -39,5 +38,5 @@ pub record IsRunEnding (words : List (List ℕ)) (disk disk' : DiskView) (files 
   -- its trace, its disk whenever that stops, its output, and why it ended
   pub run : IsSoloRun (run_of command.limits start origin_epoch trace) opened_at acks disk disk' out out' answer
   -- the last acknowledged epoch, the turns and the last position are told where it ended by itself
-  pub end_is : end ≡ end_for answer (last_acked (run_of command.limits start origin_epoch trace) acks) (turns_in trace)
+  pub end_is : end ≡ end_for answer (last_acked (run_of command.limits start origin_epoch trace)) (run_of command.limits start origin_epoch trace).now.turns
       (last_position (last_group (run_of command.limits start origin_epoch trace)).frame.out)

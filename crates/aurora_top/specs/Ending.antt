@@ -1,5 +1,6 @@
 -- The numbers and the lines of ends, and the end of a run.
-use Rattle.std.specs.Prelude.{ℕ}
+use Rattle.std.specs.Prelude.{ℕ, List, [], ◌∷◌}
+use Rattle.run_defs.specs.declared.run.AckMark.{AckMark}
 use Rattle.sls_core.specs.declared.run.RunAnswer.{RunAnswer}
 use Rattle.sls_core.specs.declared.run.RunAnswer.TheVariants as answers
 use Rattle.command_words.specs.declared.end.End.{End}
@@ -14,3 +15,8 @@ end_for answers.DiskFault epoch turns output = DiskFault
 end_for answers.SinkFault epoch turns output = SinkFault
 end_for (answers.DiskFull need free) epoch turns output = DiskFull need free
 end_for answers.NoMemory epoch turns output = NoMemory
+
+-- the epoch of the last acknowledgement, or the run's own
+abbrev pub last_epoch : ℕ → List AckMark → ℕ
+last_epoch epoch [] = epoch
+last_epoch epoch (a ∷ acks) = last_epoch a.epoch acks

@@ -1,10 +1,9 @@
 //! A run on one thread.
 ghost use Rattle.std.specs.Prelude.{◌≡◌, ◌≤◌, ◌⊎◌, ◌↔◌, [], None};
-ghost use Rattle.run_defs.specs.Trace.{turns_in};
-ghost use Rattle.sls_core.specs.Safe.{last_epoch};
+ghost use Rattle.run_defs.specs.Marks.{turns_in};
 ghost use Rattle.aurora_top.specs.Answers.{IsRefusal, IsRunEnding};
 ghost use Rattle.aurora_top.specs.Complete.{IsOfRun, IsUnhindered};
-ghost use Rattle.aurora_top.specs.Ending.{end_for as end_named};
+ghost use Rattle.aurora_top.specs.Ending.{end_for as end_named, last_epoch};
 ghost use Rattle.command_words.specs.Say.{HasSaid};
 ghost use Rattle.command_words.specs.Words.{command_of_words};
 

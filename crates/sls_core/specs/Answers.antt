@@ -1,21 +1,22 @@
 -- What a run answers, and what stands then.
-use Rattle.std.specs.Prelude.{◌≡◌, ◌<◌, ◌≤◌, ◌+◌, ℕ, false, IsTrue, ⊤, List, Option, Some, None}
-use Rattle.std.specs.List.{filter_map, list_any, sum_by}
+use Rattle.std.specs.Prelude.{◌≡◌, ◌<◌, ◌≤◌, ◌+◌, ℕ, ⊤, List, Option, Some, None}
+use Rattle.std.specs.List.{filter_map, sum_by}
 use Rattle.std.specs.Option.{ForSome}
 use Rattle.dev_traits.specs.Counts.{Rose}
 use Rattle.dev_traits.specs.Disk.{DiskView, LeftNow}
 use Rattle.dev_traits.specs.Outside.{SinkView}
+use Rattle.group_defs.specs.Group.{Group}
+use Rattle.run_defs.specs.Ends.{IsDone, IsStuck, IsSpent}
+use Rattle.run_defs.specs.Legal.{Legal}
+use Rattle.run_defs.specs.Progress.{IsGroupOf, group_of_epoch}
+use Rattle.run_defs.specs.Solo.{IsSoloPrefix, IsSoloTrace}
 use Rattle.run_defs.specs.declared.run.AckMark.{AckMark}
 use Rattle.run_defs.specs.declared.run.Mark.{Mark}
 use Rattle.run_defs.specs.declared.run.Mark.TheVariants.{Fetch}
-use Rattle.run_defs.specs.Ends.{IsDone, IsStuck, IsSpent}
-use Rattle.group_defs.specs.Group.{Group}
-use Rattle.run_defs.specs.Legal.{Legal}
-use Rattle.run_defs.specs.Solo.{IsSoloPrefix, IsSoloTrace}
-use Rattle.run_defs.specs.Trace.{IsGroupOf, acked_epochs, group_of_epoch, is_ack_of, is_fetch_of, is_fetch}
 use Rattle.ckpt_records.specs.Newest.{NewestCheckpoint, HasNewest, epoch_after, used_by}
 use Rattle.ckpt_records.specs.Cost.{calls_for, cost_of, free_blocks}
-use Rattle.sls_core.specs.Safe.{RunSoFar, Safe, AreAcks, HoldsLastAcknowledged, Released, IsUnwritten, IsWhole, last_group}
+use Rattle.sls_core.specs.Committed.{IsOnlyCommitted}
+use Rattle.sls_core.specs.Safe.{RunSoFar, Safe, AreAcks, HoldsLastAcknowledged, Released, IsUnwritten, IsWhole, last_acked, last_group}
 use Rattle.sls_core.specs.declared.run.RunAnswer.{RunAnswer}
 use Rattle.sls_core.specs.declared.run.RunAnswer.TheVariants.{Done, Stuck, Spent, DiskFault, SinkFault, DiskFull, NoMemory}
 
@@ -28,21 +29,19 @@ pub record HasFree (count : ℕ) (image : List ℕ) (epoch free : ℕ) : Type 0 
 
 -- The checkpoint of the last barrier, which is fetched and not acknowledged, needs more blocks than are free.
 pub record IsDiskFull (run : RunSoFar) (disk : DiskView) (need free : ℕ) : Type 0 where
-  pub epoch : ℕ
-  pub fetched : IsTrue (list_any (is_fetch_of epoch) run.trace)
-  pub unacked : list_any (is_ack_of epoch) run.trace ≡ false
+  pub unacked : last_acked run < run.now.fetched
   pub group : Group
-  pub group_is : IsGroupOf run.limits.quantum run.start run.origin run.trace epoch group
+  pub group_is : IsGroupOf run.now run.now.fetched group
   pub need_is : need ≡ cost_of group
-  pub free_is : ForSome disk.reading (λ r. HasFree disk.blocks r epoch free)
+  pub free_is : ForSome disk.reading (λ r. HasFree disk.blocks r run.now.fetched free)
   pub too_few : free < need
 
 -- Why a run ended: by itself, as the definitions of ends say; a fault only where that device's count rose; a full disk. Want
 -- of memory is open.
 abbrev pub EndsFor : RunSoFar → DiskView → DiskView → SinkView → SinkView → RunAnswer → Type 0
 EndsFor run disk disk' out out' Done = IsWhole run out' × IsDone (last_group run)
-EndsFor run disk disk' out out' Stuck = IsWhole run out' × IsStuck (last_group run)
-EndsFor run disk disk' out out' Spent = IsWhole run out' × IsSpent run.limits run.trace (last_group run)
+EndsFor run disk disk' out out' Stuck = IsWhole run out' × IsStuck run.now.state
+EndsFor run disk disk' out out' Spent = IsWhole run out' × IsSpent run.limits run.now
 EndsFor run disk disk' out out' DiskFault = Rose disk.faults disk'.faults
 EndsFor run disk disk' out out' SinkFault = Rose out.faults out'.faults
 EndsFor run disk disk' out out' (DiskFull need free) = IsDiskFull run disk' need free
@@ -55,15 +54,11 @@ fetched_epoch m = None
 
 -- how many write calls the commit of an epoch's group may make; none where the run has no group of that epoch
 abbrev pub calls_of_epoch : RunSoFar → ℕ → ℕ
-calls_of_epoch run epoch = elim (group_of_epoch run.limits.quantum run.start run.origin run.trace epoch) [ None ↦ 0 | Some g ↦ calls_for g ]
+calls_of_epoch run epoch = elim (group_of_epoch run.now epoch) [ None ↦ 0 | Some g ↦ calls_for g ]
 
 -- how many the commits of all epochs may make that the trace fetches
 abbrev pub writes_allowed : RunSoFar → ℕ
 writes_allowed run = sum_by (calls_of_epoch run) (filter_map fetched_epoch run.trace)
-
--- how many the commits of those epochs may make that the trace acknowledges
-abbrev pub writes_acknowledged : RunSoFar → ℕ
-writes_acknowledged run = sum_by (calls_of_epoch run) (acked_epochs run.trace)
 
 -- What a run has done so far, whose disk and output were these at its start, and whose disk was opened at this moment.
 pub record IsSafeSoFar (run : RunSoFar) (opened_at : ℕ) (acks : List AckMark) (disk disk' : DiskView)
@@ -74,9 +69,9 @@ pub record IsSafeSoFar (run : RunSoFar) (opened_at : ℕ) (acks : List AckMark) 
   -- the disk that comes back, where the disk tells its bytes
   pub safe : ForSome disk.reading (λ r. Safe run opened_at acks disk disk')
   pub acked : AreAcks run opened_at acks disk disk'
-  pub released : Released run acks out out'
+  pub released : Released run out out'
   -- nothing was written before the first fetch
-  pub unfetched : list_any is_fetch run.trace ≡ false → IsUnwritten disk disk'
+  pub unfetched : run.now.fetched ≡ run.origin → IsUnwritten disk disk'
 
 -- A run, on one thread or on several: its trace is legal, what it left is safe, and why it ended.
 pub record IsSafeRun (run : RunSoFar) (opened_at : ℕ) (acks : List AckMark) (disk disk' : DiskView)
@@ -98,8 +93,8 @@ pub record IsSoloRun (run : RunSoFar) (opened_at : ℕ) (acks : List AckMark) (d
   pub safe : IsSafeRun run opened_at acks disk disk' out out' answer
   -- After any answer but a disk fault no commit is under way: a stop now leaves what was acknowledged last.
   pub current : (answer ≡ DiskFault → ⊥)
-      → ForSome disk.reading (λ r. (image : List ℕ) → LeftNow disk' image → HoldsLastAcknowledged run acks image)
-  -- Nor are the write calls more than the acknowledged commits may make, on every disk, told or not.
-  pub none_given_up : (answer ≡ DiskFault → ⊥) → disk'.writes ≤ disk.writes + writes_acknowledged run
+      → ForSome disk.reading (λ r. (image : List ℕ) → LeftNow disk' image → HoldsLastAcknowledged run image)
+  -- Nor was one begun and given up: the acknowledged commits are all that was written, on every disk, told or not.
+  pub none_given_up : (answer ≡ DiskFault → ⊥) → IsOnlyCommitted run acks disk disk'
   pub order : IsSoloPrefix run.start run.origin run.limits run.trace
   pub whole : EndsByItself answer → IsSoloTrace run.start run.origin run.limits run.trace

@@ -1,249 +1,264 @@
 -- A run between two of its intervals, and what each part of the next one makes of it.
-use Rattle.std.proofs.Common.{◌≡◌, ◌⊎◌, inl, inr, ℕ, ◌+◌, ◌-◌, ◌*◌, ◌^◌, ◌≤◌, ◌==◌, ◌||◌, Bool, true, false, List, [], ◌∷◌, ◌++◌, length, take, drop, Option, Some, None, IsTrue, refl, sym, ap, subst, ◌∙◌, arith, append-nil, append_assoc, length-drop}
-use Rattle.std.specs.List.{list_any, filter_map, AllByRecursion}
+use Rattle.std.proofs.Common.{◌≡◌, ◌⊎◌, inl, inr, ℕ, ◌+◌, ◌-◌, ◌*◌, ◌^◌, ◌<◌, ◌≤◌, List, [], ◌∷◌, ◌++◌, length, take, drop, Option, Some, None, refl, sym, ap, subst, ◌∙◌, arith, append_assoc}
+use Rattle.std.specs.List.{AllByRecursion, filter_map}
 use Rattle.std.specs.Option.{ForSome, option_map}
 use Rattle.std.proofs.lemmas.List.{take_all}
-use Rattle.std.proofs.lemmas.List.Folds.{list_any-append}
-use Rattle.std.proofs.lemmas.List.Elements.{filter_map-append}
 use Rattle.dev_traits.specs.Counts.{Rose}
-use Rattle.dev_traits.specs.Disk.{DiskView, LeftNow, OnlyReading}
-use Rattle.dev_traits.specs.Since.{LeavesOnly}
+use Rattle.dev_traits.specs.Disk.{DiskView, LeftNow}
 use Rattle.dev_traits.specs.Outside.{SinkView, Takes, TakesPart}
+use Rattle.group_defs.specs.Group.{Group}
+use Rattle.group_defs.specs.Output.{last_position}
+use Rattle.group_defs.specs.Standing.{group_barrier}
+use Rattle.run_defs.specs.Ends.{IsDone, IsSettled, IsSpent, IsStuck}
+use Rattle.run_defs.specs.Legal.{IsDue, ready}
+use Rattle.run_defs.specs.Marks.{acked_epoch}
+use Rattle.run_defs.specs.Progress.{IsGroupOf, Progress, checkpoint, mark_of, output_between}
+use Rattle.run_defs.specs.Solo.{IsSoloSoFar, IsSoloTrace}
 use Rattle.run_defs.specs.declared.run.AckMark.{AckMark}
 use Rattle.run_defs.specs.declared.run.Limits.{Limits}
 use Rattle.run_defs.specs.declared.run.Mark.{Mark}
 use Rattle.run_defs.specs.declared.run.Mark.TheVariants.{Barrier, Fetch, Ack}
-use Rattle.run_defs.specs.Ends.{IsDone, IsSettled, IsSpent, IsStuck}
-use Rattle.group_defs.specs.Group.{Group}
-use Rattle.run_defs.specs.Legal.{ready}
-use Rattle.group_defs.specs.Output.{last_position}
-use Rattle.run_defs.specs.Solo.{IsSoloSoFar, IsSoloTrace}
-use Rattle.run_defs.specs.Trace.{IsGroupOf, is_ack_of, is_barrier_of, is_fetch_of, group_of_epoch, mark_of, output, acked_epoch, is_fetch}
-use Rattle.group_defs.specs.Valid.{OutValid}
-use Rattle.ckpt_chain.specs.Chain.{Has}
-use Rattle.ckpt_chain.specs.declared.slot.Slot.{Slot}
-use Rattle.ckpt_records.specs.Holds.{Holds, HoldsAt, IsCheckpointed}
-use Rattle.commit_gate.specs.Whole.{IsDataBlock, finished, numbers}
-use Rattle.sls_core.specs.Answers.{EndsByItself, EndsFor, IsSoloRun, IsSafeSoFar, writes_acknowledged, writes_allowed}
-use Rattle.run_defs.specs.AtRest.{EpochsHaveGroups, IsTraceAtRest, acknowledged}
-use Rattle.run_defs.specs.Trace.{output_between}
-use Rattle.solo_engine.specs.Interval.{EndsIn, IsCommitted, IsFetched, IsNewestAtStart, IsPlanned, IsStart, IsUncommitted, IsUnplanned, LeavesNewestOrNext, ReleasesPart, ReleasesRest, StopsTurning, rest_of}
-use Rattle.ckpt_records.specs.Newest.{NewestCheckpoint, nothing, checkpoint, HasNewest, epoch_after, target_after, used_by}
-use Rattle.ckpt_chain.specs.Slot.{other}
-use Rattle.page_flusher.specs.CommitPlan.{Covers, HasNewestOrNext, IsPlan}
-use Rattle.page_flusher.specs.KeptBlocks.{Describes, DescribesGates}
+use Rattle.run_laws.specs.AtRest.{IsTraceAtRest, with_ack}
 use Rattle.ckpt_records.specs.Cost.{calls_for, free_blocks}
-use Rattle.sls_core.specs.Safe.{HoldsOne, HoldsLastAcknowledged, IsWhole, Released, RunSoFar, last_acked, run_of}
-use Rattle.solo_engine.specs.declared.interval.PlannedCommit.{PlannedCommit}
+use Rattle.ckpt_records.specs.Holds.{Holds, HoldsAt, IsCheckpointed}
+use Rattle.ckpt_records.specs.Newest.{NewestCheckpoint, checkpoint as kept_checkpoint, HasNewest, epoch_after, used_by}
+use Rattle.ckpt_chain.specs.Chain.{Has}
+use Rattle.commit_gate.specs.Whole.{IsDataBlock, finished}
+use Rattle.page_flusher.specs.CommitPlan.{IsPlan}
+use Rattle.page_flusher.specs.KeptBlocks.{Describes, DescribesGates}
 use Rattle.page_flusher.specs.declared.kept.KeptBlocks.{KeptBlocks}
+use Rattle.sls_core.specs.Answers.{EndsByItself, EndsFor, IsSafeSoFar, IsSoloRun, writes_allowed}
+use Rattle.sls_core.specs.Committed.{IsOnlyCommitted, WholeCommit, images_after}
+use Rattle.sls_core.specs.Safe.{HoldsLastAcknowledged, IsReleasedInTime, IsWhole, Released, RunSoFar, last_acked, run_of}
 use Rattle.sls_core.specs.declared.run.RunAnswer.{RunAnswer}
 use Rattle.sls_core.specs.declared.run.RunAnswer.TheVariants.{Done, Stuck, Spent, DiskFault, SinkFault, DiskFull, NoMemory}
+use Rattle.solo_engine.specs.Interval.{EndsIn, HasProgress, IsCommitted, IsFetched, IsNoneReady, IsOfTurn, IsPlanned, IsStart, IsUncommitted, IsUnplanned, LeavesNewestOrNext, ReleasesPart, ReleasesRest, StopsTurning, rest_of}
+use Rattle.solo_engine.specs.declared.interval.PlannedCommit.{PlannedCommit}
 use Rattle.solo_engine.proofs.Committing.{before_commit}
-use Rattle.dev_traits.specs.SinkLaws.{takes_none}
-use Rattle.solo_engine.proofs.SafeSoFar.{IsCommitting, IsLastBarrier, IsNewestOfRun, Reached, acks_below, acks_later, acks_longer, acks_more, kept_acked, kept_longer, longer, reached_longer, reached_more, released, safe_acked, safe_during, safe_longer}
-use Rattle.solo_engine.proofs.ReleasedInTime.{Covered, IsBehind, behind_ack, behind_fetch, behind_turns, covered_first, covered_more, covered_next, covered_up, in_time_at_start, released_in_time}
-use Rattle.solo_engine.proofs.WriteLaws.{acknowledged_longer, acknowledged_more, allowed_fetched, allowed_longer}
+use Rattle.solo_engine.proofs.ReleasedInTime.{Covered, covered_more, in_time_fetched, in_time_on}
+use Rattle.solo_engine.proofs.SafeSoFar.{IsCommitting, IsNewestOfRun, Reached, acks_below, acks_later, acks_longer, acks_more, kept_acked, kept_last, kept_longer, longer, longer_twice, reached_longer, reached_more, released, run_longer, safe_acked, safe_during, safe_longer}
+use Rattle.solo_engine.proofs.Turning.{KeepsEpochs, at_group, turns_keep, turns_unacked}
+use Rattle.solo_engine.proofs.WriteLaws.{allowed_fetched, allowed_longer, committed_calls, committed_longer, committed_more}
 
--- between two intervals
-pub record IsRunAtRest (limits : Limits) (start : Group) (origin : ℕ) (disk0 : DiskView) (out0 : SinkView) (g : Group) (k : KeptBlocks) (made : ℕ) (trace : List Mark) (acks : List AckMark) (disk : DiskView) (out : SinkView) : Type 0 where
-  pub stands : IsTraceAtRest start origin limits trace g made 0 k.epoch
+-- A run with its acknowledgements, and its disk and output as they were at its start and are now.
+pub record RunHere : Type 1 where
+  pub run : RunSoFar
+  pub acks : List AckMark
+  pub disk0 : DiskView
+  pub disk : DiskView
+  pub out0 : SinkView
+  pub out : SinkView
+
+abbrev pub here : Limits → Group → ℕ → List Mark → List AckMark → DiskView → DiskView → SinkView → SinkView → RunHere
+here limits start origin trace acks disk0 disk out0 out = record { run = run_of limits start origin trace; acks = acks; disk0 = disk0; disk = disk; out0 = out0; out = out }
+
+-- the same run with this trace
+abbrev pub logged : RunHere → List Mark → RunHere
+logged x trace = record x { run = run_of x.run.limits x.run.start x.run.origin trace }
+
+abbrev pub StartOf : RunHere → Type 0
+StartOf x = IsStart x.run.limits x.run.start x.run.origin
+
+abbrev pub HasRun : RunHere → RunAnswer → Type 0
+HasRun x answer = IsSoloRun x.run x.disk0.moment x.acks x.disk0 x.disk x.out0 x.out answer
+
+abbrev pub IsSafeHere : RunHere → Type 0
+IsSafeHere x = IsSafeSoFar x.run x.disk0.moment x.acks x.disk0 x.disk x.out0 x.out
+
+abbrev LeavesLast : RunHere → Type 0
+LeavesLast x = ForSome x.disk0.reading (λ r. (image : List ℕ) → LeftNow x.disk image → HoldsLastAcknowledged x.run image)
+
+-- what stands of it between two commits, also where turns or a barrier stand behind the last one
+pub record IsQuiet (x : RunHere) : Type 0 where
+  pub safe : IsSafeHere x
+  pub current : LeavesLast x
+  pub none_given_up : IsOnlyCommitted x.run x.acks x.disk0 x.disk
+
+-- between two intervals, with this group and what is known of the disk, after so many turns
+pub record IsRunAtRest (x : RunHere) (g : Group) (k : KeptBlocks) (made : ℕ) : Type 0 where
+  pub has : HasProgress g made 0 x.run.now
+  pub stands : IsTraceAtRest x.run.start x.run.origin x.run.limits x.run.trace x.run.now
+  pub last_is : x.run.now.state.standing.last ≡ k.epoch
+  pub fetched_is : x.run.now.fetched ≡ k.epoch
+  pub begins : x.run.origin ≤ k.epoch
   pub checkpointed : IsCheckpointed g
   pub position : last_position g.frame.out ≤ 2 ^ 62 + 1048576 * made
   pub epochs : k.epoch ≤ 2 ^ 62 + made
-  pub within : made ≤ limits.turns
-  pub safe : IsSafeSoFar (run_of limits start origin trace) disk0.moment acks disk0 disk out0 out
-  -- each commit that was begun is acknowledged
-  pub none_given_up : disk.writes ≤ disk0.writes + writes_acknowledged (run_of limits start origin trace)
-  pub disk_faults : disk0.faults ≤ disk.faults
-  pub out_faults : out0.faults ≤ out.faults
-  pub told : (r : List ℕ) → disk0.reading ≡ Some r → (now : List ℕ) × (disk.reading ≡ Some now)
-  pub only : OnlyReading disk
-  pub gates : ForSome disk.reading (λ r. DescribesGates k r)
+  pub within : made ≤ x.run.limits.turns
+  pub safe : IsSafeHere x
+  pub none_given_up : IsOnlyCommitted x.run x.acks x.disk0 x.disk
+  pub disk_faults : x.disk0.faults ≤ x.disk.faults
+  pub out_faults : x.out0.faults ≤ x.out.faults
+  pub gates : ForSome x.disk.reading (λ r. DescribesGates k r)
   pub kept : NewestCheckpoint
   pub knows : Describes k kept
-  pub keeps : ForSome disk.reading (λ r. HasNewest r kept)
-  pub kept_is : IsNewestOfRun (run_of limits start origin trace) acks kept
+  pub keeps : ForSome x.disk.reading (λ r. HasNewest r kept)
+  pub kept_is : IsNewestOfRun x.run x.acks kept
   -- no turn was made since the last barrier, which was acknowledged
-  pub group_is : IsGroupOf limits.quantum start origin trace k.epoch g
-  pub last : last_acked (run_of limits start origin trace) acks ≡ k.epoch
-  pub reached : Reached (run_of limits start origin trace) out0 out g.frame.out.mark
-  pub out_at : out.count ≡ g.frame.out.mark
+  pub group_is : IsGroupOf x.run.now k.epoch g
+  pub reached : Reached x.run x.out0 x.out g.frame.out.mark
+  pub out_at : x.out.count ≡ g.frame.out.mark
   -- what each barrier up to the last covers is out
-  pub covered : Covered (run_of limits start origin trace) k.epoch g.frame.out.mark
+  pub covered : Covered x.run g.frame.out.mark
 
 rose_later : (a b c : ℕ) → a ≤ b → Rose b c → Rose a c
 rose_later a b c le rose = omega (arith, le, rose)
 
-safe_run : (limits : Limits) (start : Group) (origin : ℕ) → IsStart limits start origin → (trace : List Mark) → IsSoloSoFar start origin limits trace → (acks : List AckMark) (disk0 disk : DiskView) (out0 out : SinkView) (answer : RunAnswer)
-    → IsSafeSoFar (run_of limits start origin trace) disk0.moment acks disk0 disk out0 out → ((answer ≡ DiskFault → ⊥) → ForSome disk0.reading (λ r. (image : List ℕ) → LeftNow disk image → HoldsLastAcknowledged (run_of limits start origin trace) acks image)) → ((answer ≡ DiskFault → ⊥) → disk.writes ≤ disk0.writes + writes_acknowledged (run_of limits start origin trace))
-    → EndsFor (run_of limits start origin trace) disk0 disk out0 out answer → (EndsByItself answer → IsSoloTrace start origin limits trace) → IsSoloRun (run_of limits start origin trace) disk0.moment acks disk0 disk out0 out answer
-safe_run limits start origin s trace so_far acks disk0 disk out0 out answer safe current written ends whole =
-    record { safe = record { legal = so_far.legal; stands = safe; ends = ends }; current = current; none_given_up = written; order = s.prefix trace so_far; whole = whole }
-
-itself : (n : ℕ) → (n == n) ≡ true
-itself n = grind arith
-
--- whatever stands around it, a mark is found
-found_there : (p : Mark → Bool) (marks more : List Mark) (m : Mark) → p m ≡ true → list_any p (marks ++ m ∷ more) ≡ true
-found_there p marks more m is = list_any-append p marks (m ∷ more) ∙ hit (list_any p marks)
-  where
-    hit : (a : Bool) → (a || (p m || list_any p more)) ≡ true
-    hit true = refl
-    hit false = ap (λ (t : Bool). t || list_any p more) is
+pub answered : (x : RunHere) → StartOf x → (answer : RunAnswer) → IsSoloSoFar x.run.start x.run.origin x.run.limits x.run.trace → IsSafeHere x → ((answer ≡ DiskFault → ⊥) → IsQuiet x)
+    → EndsFor x.run x.disk0 x.disk x.out0 x.out answer → (EndsByItself answer → IsSoloTrace x.run.start x.run.origin x.run.limits x.run.trace) → HasRun x answer
+answered x s answer so_far safe quiet ends whole = record {
+  safe = record { legal = s.legal x.run.trace so_far; stands = safe; ends = ends };
+  current = λ other. (quiet other).current;
+  none_given_up = λ other. (quiet other).none_given_up;
+  order = s.prefix x.run.trace so_far;
+  whole = whole;
+}
 
 -- ---- the trace grows, and neither the disk nor the output changes
 
-any_false : (p : Mark → Bool) (a b : List Mark) → list_any p (a ++ b) ≡ false → list_any p a ≡ false
-any_false p a b none = either (list_any p a) (list_any p b) (sym (list_any-append p a b) ∙ none)
-  where
-    either : (x y : Bool) → (x || y) ≡ false → x ≡ false
-    either true y e = absurd (cc)
-    either false y e = refl
+abbrev pub here_longer : RunHere → List Mark → RunHere
+here_longer x more = record x { run = longer x.run more }
 
-true_false : (b : Bool) → b ≡ true → b ≡ false → ⊥
-true_false b yes_is no_is = cc
+module _ (x : RunHere) (s : StartOf x) (more : List Mark) (unacked : filter_map acked_epoch more ≡ []) (same : last_acked (longer x.run more) ≡ last_acked x.run)
+    (begins : x.run.origin ≤ x.run.now.fetched) (later : x.run.now.fetched ≤ (longer x.run more).now.fetched) where
+  quiet_longer : IsQuiet x → (g : Group) → IsGroupOf x.run.now (last_acked x.run) g → Reached x.run x.out0 x.out g.frame.out.mark → IsReleasedInTime (longer x.run more) g.frame.out.mark → IsQuiet (here_longer x more)
+  quiet_longer q g group_is reached prompt = record {
+    safe = record {
+      blocks = q.safe.blocks;
+      writes = omega (arith, q.safe.writes, allowed_longer x.run s.epochs more);
+      safe = λ r told. safe_longer x.run s.epochs more later x.disk0.moment x.acks x.disk0 x.disk (q.safe.safe r told);
+      acked = acks_longer x.run more x.disk0.moment x.acks x.disk0 x.disk unacked q.safe.acked;
+      released = released (longer x.run more) x.out0 x.out g.frame.out.mark g.frame.out.mark (reached_longer x.run s.parts more x.out0 x.out g.frame.out.mark reached)
+          (ap (mark_of (longer x.run more).now) same ∙ ap (option_map (λ (h : Group). h.frame.out.mark)) (s.epochs.later x.run.now more (last_acked x.run) g group_is)) (omega arith) prompt;
+      unfetched = λ none. q.safe.unfetched (omega (arith, none, begins, later));
+    };
+    current = λ r told image left. last_on (q.current r told image left);
+    none_given_up = committed_longer x.run s.epochs more x.acks x.disk0 x.disk q.none_given_up;
+  }
+    where
+      last_on : {image : List ℕ} → HoldsLastAcknowledged x.run image → HoldsLastAcknowledged (longer x.run more) image
+      last_on {image} (inl (h, is, held)) = inl (h, subst (λ (e : ℕ). IsGroupOf (longer x.run more).now e h) (sym same) (s.epochs.later x.run.now more (last_acked x.run) h is), subst (λ (e : ℕ). Holds image e h) (sym same) held)
+      last_on (inr (zero, none)) = inr (same ∙ zero, none)
 
-stands_longer : (run : RunSoFar) (epochs : EpochsHaveGroups run.start run.origin run.limits) (more : List Mark) (acks : List AckMark) (disk0 disk : DiskView) (out0 out : SinkView) → filter_map acked_epoch more ≡ [] → IsSafeSoFar run disk0.moment acks disk0 disk out0 out
-    → Released (longer run more) acks out0 out → IsSafeSoFar (longer run more) disk0.moment acks disk0 disk out0 out
-stands_longer run epochs more acks disk0 disk out0 out none s r = record {
-  blocks = s.blocks;
-  writes = omega (arith, s.writes, allowed_longer run epochs more);
-  safe = λ told is. safe_longer run epochs more disk0.moment acks disk0 disk (s.safe told is);
-  acked = acks_longer run more disk0.moment acks disk0 disk none s.acked;
-  released = r;
-  unfetched = λ unfetched. s.unfetched (any_false is_fetch run.trace more unfetched);
-}
+module _ (x : RunHere) (s : StartOf x) (g : Group) (k : KeptBlocks) (made : ℕ) (rest : IsRunAtRest x g k made) where
+  last_is_kept : last_acked x.run ≡ k.epoch
+  last_is_kept = rest.stands.rests.acked ∙ rest.last_is
 
-module _ (limits : Limits) (start : Group) (origin : ℕ) (s : IsStart limits start origin) (disk0 : DiskView) (out0 : SinkView) (g : Group) (k : KeptBlocks) (made : ℕ) (trace : List Mark) (acks : List AckMark) (disk : DiskView) (out : SinkView)
-    (rest : IsRunAtRest limits start origin disk0 out0 g k made trace acks disk out) where
-  run : RunSoFar
-  run = run_of limits start origin trace
+  run_now : run_of x.run.limits x.run.start x.run.origin x.run.trace ≡ x.run
+  run_now = ap (λ (r : Progress). record x.run { now = r }) rest.stands.stands
 
-  -- the last acknowledged group's mark, also with more marks behind
-  mark_is : (more : List Mark) → mark_of limits.quantum start origin (trace ++ more) (last_acked (run_of limits start origin (trace ++ more)) acks) ≡ Some g.frame.out.mark
-  mark_is more =
-      ap (λ (e : ℕ). mark_of limits.quantum start origin (trace ++ more) e) rest.last
-      ∙ ap (option_map (λ (x : Group). x.frame.out.mark)) (s.epochs.later trace more k.epoch g rest.group_is)
+  run_more : (more trace' : List Mark) → trace' ≡ x.run.trace ++ more → run_of x.run.limits x.run.start x.run.origin trace' ≡ longer x.run more
+  run_more more trace' is = run_longer x.run.limits x.run.start x.run.origin x.run.trace more trace' is ∙ ap (λ (r : RunSoFar). longer r more) run_now
 
-  stands_on : (more : List Mark) → IsBehind k.epoch more → filter_map acked_epoch more ≡ [] → IsSafeSoFar (run_of limits start origin (trace ++ more)) disk0.moment acks disk0 disk out0 out
-  unfolding run
-  stands_on more behind none =
-      stands_longer run s.epochs more acks disk0 disk out0 out none rest.safe
-      (released (longer run more) acks out0 out g.frame.out.mark g.frame.out.mark (reached_longer run s.parts more out0 out g.frame.out.mark rest.reached) (mark_is more) (omega arith)
-      (released_in_time (longer run more) k.epoch g.frame.out.mark (covered_more run s.epochs more k.epoch g.frame.out.mark rest.covered behind)))
+  told_now : (r : List ℕ) → x.disk0.reading ≡ Some r → (now : List ℕ) × (x.disk.reading ≡ Some now)
+  told_now r told = (images_after rest.none_given_up.commits r, rest.none_given_up.reads ∙ ap (option_map (images_after rest.none_given_up.commits)) told)
 
-  -- a stop now leaves what was acknowledged last
-  keeps_last : (kept : NewestCheckpoint) (more : List Mark) (image : List ℕ) → IsNewestOfRun (run_of limits start origin trace) acks kept → HasNewest image kept → HoldsLastAcknowledged (run_of limits start origin (trace ++ more)) acks image
-  keeps_last nothing more image by keeps = inr (by.0, by.1, keeps)
-  keeps_last (checkpoint epoch h pages metas slot) more image by keeps =
-      let held : Holds image epoch h = record { pages = pages; metas = metas; slot = slot; at = keeps } in
-      let is = s.epochs.later trace more epoch h by.group_is in
-      inl (h, subst (λ (e : ℕ). IsGroupOf limits.quantum start origin (trace ++ more) e h) (sym by.last) is, subst (λ (e : ℕ). Holds image e h) (sym by.last) held)
+  quiet : IsQuiet x
+  quiet = record {
+    safe = rest.safe;
+    current = λ r told image left.
+        let now = told_now r told in
+        kept_last x.run x.acks rest.kept image rest.kept_is (subst (λ (i : List ℕ). HasNewest i rest.kept) (sym (rest.none_given_up.only now.0 now.1 image left)) (rest.keeps now.0 now.1));
+    none_given_up = rest.none_given_up;
+  }
 
-  current_on : (more : List Mark) → ForSome disk0.reading (λ r. (image : List ℕ) → LeftNow disk image → HoldsLastAcknowledged (run_of limits start origin (trace ++ more)) acks image)
-  current_on more r told image left =
-      let now = rest.told r told in
-      keeps_last rest.kept more image rest.kept_is (subst (λ (x : List ℕ). HasNewest x rest.kept) (sym (rest.only now.0 now.1 image left)) (rest.keeps now.0 now.1))
+  -- ---- turns
 
-  written_on : (more : List Mark) → disk.writes ≤ disk0.writes + writes_acknowledged (run_of limits start origin (trace ++ more))
-  written_on more = omega (arith, rest.none_given_up, acknowledged_longer (run_of limits start origin trace) s.epochs more)
+  module _ (more : List Mark) (turns : AllByRecursion IsOfTurn more) where
+    keeps : KeepsEpochs x.run.now (longer x.run more).now
+    keeps = turns_keep x.run.limits.quantum x.run.now more turns
 
-  -- memory ran out during the turns
-  pub stopped : (trace' : List Mark) → StopsTurning limits trace trace' g made → IsSoloRun (run_of limits start origin trace') disk0.moment acks disk0 disk out0 out NoMemory
+    quiet_turned : IsQuiet (here_longer x more)
+    quiet_turned =
+        quiet_longer x s more (turns_unacked more turns) keeps.acked (omega (arith, rest.begins, rest.fetched_is)) (omega (arith, keeps.fetched)) quiet g
+        (subst (λ (e : ℕ). IsGroupOf x.run.now e g) (sym last_is_kept) rest.group_is) rest.reached (in_time_on x.run g.frame.out.mark rest.covered more keeps.checkpoints)
+
+  -- memory ran out during them
+  pub stopped : (trace' : List Mark) → StopsTurning x.run.limits x.run.trace trace' g made → HasRun (logged x trace') NoMemory
   stopped trace' stop =
-      let l = stop.longer in
-      let at : IsSoloRun (run_of limits start origin (trace ++ l.more)) disk0.moment acks disk0 disk out0 out NoMemory =
-      safe_run limits start origin s (trace ++ l.more) (let P : List Mark → Type 0 = λ x. IsSoloSoFar start origin limits x in subst P l.trace_is (stop.so_far start origin k.epoch rest.stands))
-      acks disk0 disk out0 out NoMemory (stands_on l.more (behind_turns k.epoch l.more l.none) l.unacked) (λ other. current_on l.more) (λ other. written_on l.more) tt (λ e. absurd e) in
-      subst (λ (x : List Mark). IsSoloRun (run_of limits start origin x) disk0.moment acks disk0 disk out0 out NoMemory) (sym l.trace_is) at
+      let q = quiet_turned stop.more stop.turns in
+      subst (λ (r : RunSoFar). HasRun (record x { run = r }) NoMemory) (sym (run_more stop.more trace' stop.trace_is)) (answered (here_longer x stop.more) s NoMemory (subst (IsSoloSoFar x.run.start x.run.origin x.run.limits) stop.trace_is (stop.so_far x.run.start x.run.origin x.run.now rest.stands rest.has)) q.safe (λ other. q) tt (λ e. absurd e))
 
   -- ---- a barrier that is fetched
-  module _ (g' : Group) (made' : ℕ) (trace' : List Mark) (f : IsFetched limits k.epoch trace trace' g g' made made') where
-    epoch : ℕ
-    epoch = k.epoch + 1
 
-    abbrev turned_to : IsTraceAtRest start origin limits f.marks f.before made' f.comes.since k.epoch
-    turned_to = f.comes.turned.stands start origin k.epoch rest.stands
+  module _ (g' : Group) (made' : ℕ) (trace' : List Mark) (f : IsFetched x.run.limits k.epoch x.run.trace trace' g g' made made') where
+    abbrev more : List Mark
+    more = f.comes.turned.more
 
-    so_far : IsSoloSoFar start origin limits trace'
-    so_far = subst (IsSoloSoFar start origin limits) (sym f.trace_is) (s.rests.fetch f.marks f.before made' f.comes.since k.epoch turned_to f.comes.due)
+    abbrev commit_marks : List Mark
+    commit_marks = Barrier (k.epoch + 1) ∷ Fetch (k.epoch + 1) ∷ []
 
-    behind : List Mark
-    behind = f.comes.turned.longer.more ++ (Barrier (k.epoch + 1) ∷ Fetch (k.epoch + 1) ∷ [])
+    abbrev x1 : RunHere
+    x1 = here_longer x more
 
-    trace_is : trace' ≡ trace ++ behind
-    unfolding behind
-    trace_is =
-        f.trace_is
-        ∙ append_assoc f.marks (Barrier (k.epoch + 1) ∷ []) (Fetch (k.epoch + 1) ∷ [])
-        ∙ ap (λ (l : List Mark). l ++ Barrier (k.epoch + 1) ∷ Fetch (k.epoch + 1) ∷ []) f.comes.turned.longer.trace_is
-        ∙ append_assoc trace f.comes.turned.longer.more (Barrier (k.epoch + 1) ∷ Fetch (k.epoch + 1) ∷ [])
+    abbrev x2 : RunHere
+    x2 = here_longer x1 commit_marks
 
-    unacked : filter_map acked_epoch behind ≡ []
-    unfolding behind
-    unacked = filter_map-append acked_epoch f.comes.turned.longer.more (Barrier (k.epoch + 1) ∷ Fetch (k.epoch + 1) ∷ []) ∙ ap (λ (l : List ℕ). l ++ []) f.comes.turned.longer.unacked
+    abbrev both : List Mark
+    both = more ++ commit_marks
 
-    is_behind : IsBehind k.epoch behind
-    unfolding behind
-    is_behind = behind_fetch k.epoch f.comes.turned.longer.more f.comes.turned.longer.none
+    same2 : longer x.run both ≡ x2.run
+    same2 = sym (longer_twice x.run more commit_marks)
 
-    covered_fetched : Covered (run_of limits start origin trace') k.epoch g.frame.out.mark
-    unfolding run
-    covered_fetched = subst (λ (x : List Mark). Covered (run_of limits start origin x) k.epoch g.frame.out.mark) (sym trace_is) (covered_more run s.epochs behind k.epoch g.frame.out.mark rest.covered is_behind)
+    on : IsTraceAtRest x.run.start x.run.origin x.run.limits f.marks x1.run.now × HasProgress f.before (made + f.comes.since) f.comes.since x1.run.now
+    on = f.comes.turned.goes_on x.run.start x.run.origin x.run.now rest.stands rest.has
 
-    run' : RunSoFar
-    run' = run_of limits start origin trace'
+    due : IsDue x.run.limits x1.run.now
+    due = f.comes.due x1.run.now on.1
 
-    pub stands_fetched : IsSafeSoFar (run_of limits start origin trace') disk0.moment acks disk0 disk out0 out
-    stands_fetched = subst (λ (x : List Mark). IsSafeSoFar (run_of limits start origin x) disk0.moment acks disk0 disk out0 out) (sym trace_is) (stands_on behind is_behind unacked)
+    kept1 : KeepsEpochs x.run.now x1.run.now
+    kept1 = keeps more f.comes.turned.turns
 
-    current_fetched : ForSome disk0.reading (λ r. (image : List ℕ) → LeftNow disk image → HoldsLastAcknowledged (run_of limits start origin trace') acks image)
-    current_fetched = subst (λ (x : List Mark). ForSome disk0.reading (λ r. (image : List ℕ) → LeftNow disk image → HoldsLastAcknowledged (run_of limits start origin x) acks image)) (sym trace_is) (current_on behind)
+    next : k.epoch + 1 ≡ x1.run.now.state.standing.last + 1
+    next = omega (arith, kept1.last, rest.last_is)
 
-    written_fetched : disk.writes ≤ disk0.writes + writes_acknowledged (run_of limits start origin trace')
-    written_fetched = subst (λ (x : List Mark). disk.writes ≤ disk0.writes + writes_acknowledged (run_of limits start origin x)) (sym trace_is) (written_on behind)
+    trace_is : trace' ≡ x2.run.trace
+    trace_is = f.trace_is ∙ append_assoc f.marks (Barrier (k.epoch + 1) ∷ []) (Fetch (k.epoch + 1) ∷ []) ∙ ap (λ (l : List Mark). l ++ commit_marks) f.comes.turned.trace_is
 
-    fetched_at : (p : Mark → Bool) → p (Fetch (k.epoch + 1)) ≡ true → list_any p trace' ≡ true
-    fetched_at p hit = ap (list_any p) f.trace_is ∙ found_there p (f.marks ++ Barrier (k.epoch + 1) ∷ []) [] (Fetch (k.epoch + 1)) hit
+    run_fetched : run_of x.run.limits x.run.start x.run.origin trace' ≡ x2.run
+    run_fetched = run_more both trace' (trace_is ∙ append_assoc x.run.trace more commit_marks) ∙ same2
 
-    any_fetch : list_any is_fetch trace' ≡ true
-    any_fetch = fetched_at is_fetch refl
+    so_far : IsSoloSoFar x.run.start x.run.origin x.run.limits x2.run.trace
+    so_far = subst (IsSoloSoFar x.run.start x.run.origin x.run.limits) (sym f.trace_is ∙ trace_is) (s.rests.fetch f.marks x1.run.now (k.epoch + 1) on.0 due next)
 
-    no_ack : list_any (is_ack_of (k.epoch + 1)) trace' ≡ false
-    no_ack =
-        ap (list_any (is_ack_of (k.epoch + 1))) f.trace_is ∙ list_any-append (is_ack_of (k.epoch + 1)) (f.marks ++ Barrier (k.epoch + 1) ∷ []) (Fetch (k.epoch + 1) ∷ [])
-        ∙ ap (λ (b : Bool). b || false) (list_any-append (is_ack_of (k.epoch + 1)) f.marks (Barrier (k.epoch + 1) ∷ []))
-        ∙ ap (λ (b : Bool). (b || false) || false) (turned_to.none_later (k.epoch + 1) (omega arith)).2
-
-    group_at : IsGroupOf limits.quantum start origin trace' (k.epoch + 1) g'
+    group_at : IsGroupOf x2.run.now (k.epoch + 1) g'
     group_at =
-        ap (λ (x : List Mark). group_of_epoch limits.quantum start origin x (k.epoch + 1)) (f.trace_is ∙ append_assoc f.marks (Barrier (k.epoch + 1) ∷ []) (Fetch (k.epoch + 1) ∷ []))
-        ∙ s.epochs.made f.marks (Fetch (k.epoch + 1) ∷ []) f.before made' f.comes.since k.epoch turned_to
-        ∙ ap (λ (x : Group). Some x) (sym f.group_is)
+        ap (option_map (λ c. c.group)) (s.epochs.made f.marks x1.run.now (k.epoch + 1) on.0 next)
+        ∙ ap (λ (h : Group). Some (group_barrier h)) on.1.group ∙ ap (λ (h : Group). Some h) (sym f.group_is)
 
-    barrier_there : IsTrue (list_any (is_barrier_of (k.epoch + 1)) trace')
-    barrier_there =
-        ap (list_any (is_barrier_of (k.epoch + 1))) (f.trace_is ∙ append_assoc f.marks (Barrier (k.epoch + 1) ∷ []) (Fetch (k.epoch + 1) ∷ []))
-        ∙ found_there (is_barrier_of (k.epoch + 1)) f.marks (Fetch (k.epoch + 1) ∷ []) (Barrier (k.epoch + 1)) (itself (k.epoch + 1))
+    committing : IsCommitting x2.run (k.epoch + 1) g'
+    committing = record { fetched = omega arith; group_is = group_at }
+
+    last1 : last_acked x1.run ≡ k.epoch
+    last1 = kept1.acked ∙ last_is_kept
+
+    group1 : IsGroupOf x1.run.now (last_acked x1.run) g
+    group1 = subst (λ (e : ℕ). IsGroupOf x1.run.now e g) (sym last1) (s.epochs.later x.run.now more k.epoch g rest.group_is)
+
+    adds : x2.run.now.checkpoints ≡ x.run.now.checkpoints ++ checkpoint x1.run.now (k.epoch + 1) ∷ []
+    adds = ap (λ cs. cs ++ checkpoint x1.run.now (k.epoch + 1) ∷ []) kept1.checkpoints
+
+    in_time : (to : ℕ) → g.frame.out.mark ≤ to → IsReleasedInTime x2.run to
+    in_time to up =
+        subst (λ (r : RunSoFar). IsReleasedInTime r to) same2
+        (in_time_fetched x.run g.frame.out.mark rest.covered both (checkpoint x1.run.now (k.epoch + 1)) (ap (λ (r : RunSoFar). r.now.checkpoints) same2 ∙ adds) (ap (λ (r : RunSoFar). r.now.fetched) same2) to up)
+
+    quiet_fetched : IsQuiet x2
+    quiet_fetched =
+        quiet_longer x1 s commit_marks refl refl (omega (arith, rest.begins, rest.fetched_is, kept1.fetched)) (omega (arith, rest.fetched_is, kept1.fetched)) (quiet_turned more f.comes.turned.turns) g group1
+        (reached_longer x.run s.parts more x.out0 x.out g.frame.out.mark rest.reached) (in_time g.frame.out.mark (omega arith))
 
     -- the fetch allows the writes of its commit
-    allowed : writes_allowed (run_of limits start origin trace) + calls_for g' ≤ writes_allowed (run_of limits start origin trace')
-    unfolding behind
-    allowed =
-        let more = f.comes.turned.longer.more in
-        let is : IsGroupOf limits.quantum start origin (trace ++ (more ++ Barrier (k.epoch + 1) ∷ Fetch (k.epoch + 1) ∷ [])) (k.epoch + 1) g' = subst (λ (t : List Mark). IsGroupOf limits.quantum start origin t (k.epoch + 1) g') trace_is group_at in
-        subst (λ (t : List Mark). writes_allowed (run_of limits start origin trace) + calls_for g' ≤ writes_allowed (run_of limits start origin t)) (sym trace_is) (allowed_fetched (run_of limits start origin trace) s.epochs more (k.epoch + 1) g' is)
-
-    committing : IsCommitting (run_of limits start origin trace') (k.epoch + 1) g'
-    committing = record { fetched = (barrier_there, fetched_at (is_fetch_of (k.epoch + 1)) (itself (k.epoch + 1))); group_is = group_at }
+    allowed : writes_allowed x.run + calls_for g' ≤ writes_allowed x2.run
+    allowed = omega (arith, allowed_longer x.run s.epochs more, allowed_fetched x1.run s.epochs (k.epoch + 1) g' group_at)
 
     -- there was no plan
-    pub unplanned : (answer : RunAnswer) (count : ℕ) → count ≡ disk.blocks → IsUnplanned count g' k answer → IsSoloRun (run_of limits start origin trace') disk0.moment acks disk0 disk out0 out answer
-    unplanned (DiskFull need free) count same u =
-        safe_run limits start origin s trace' so_far acks disk0 disk out0 out (DiskFull need free) stands_fetched (λ other. current_fetched) (λ other. written_fetched) (record {
-          epoch = k.epoch + 1;
-          fetched = fetched_at (is_fetch_of (k.epoch + 1)) (itself (k.epoch + 1));
-          unacked = no_ack;
+    pub unplanned : (answer : RunAnswer) (count : ℕ) → count ≡ x.disk.blocks → IsUnplanned count g' k answer → HasRun (logged x trace') answer
+    unplanned answer count same u = subst (λ (r : RunSoFar). HasRun (record x { run = r }) answer) (sym run_fetched) (by_answer answer u)
+      where
+        by_answer : (answer : RunAnswer) → IsUnplanned count g' k answer → HasRun x2 answer
+        by_answer (DiskFull need free) u = answered x2 s (DiskFull need free) so_far quiet_fetched.safe (λ other. quiet_fetched) (record {
+          unacked = omega (arith, last1);
           group = g';
           group_is = group_at;
           need_is = u.need_is;
@@ -255,389 +270,283 @@ module _ (limits : Limits) (start : Group) (origin : ℕ) (s : IsStart limits st
           };
           too_few = u.too_few;
         }) (λ e. absurd e)
-    unplanned NoMemory count same u = safe_run limits start origin s trace' so_far acks disk0 disk out0 out NoMemory stands_fetched (λ other. current_fetched) (λ other. written_fetched) tt (λ e. absurd e)
-    unplanned Done count same u = absurd u
-    unplanned Stuck count same u = absurd u
-    unplanned Spent count same u = absurd u
-    unplanned DiskFault count same u = absurd u
-    unplanned SinkFault count same u = absurd u
+        by_answer NoMemory u = answered x2 s NoMemory so_far quiet_fetched.safe (λ other. quiet_fetched) tt (λ e. absurd e)
+        by_answer Done u = absurd u
+        by_answer Stuck u = absurd u
+        by_answer Spent u = absurd u
+        by_answer DiskFault u = absurd u
+        by_answer SinkFault u = absurd u
 
-    module _ (ready : PlannedCommit) (count : ℕ) (same : count ≡ disk.blocks) (is_ready : IsPlanned count g' k ready) where
-      during : (disk' : DiskView) → LeavesNewestOrNext k g' disk disk' → ForSome disk0.reading (λ r. LeavesOnly disk disk' (HasNewestOrNext rest.kept g'))
-      during disk' leaves r told = let now = rest.told r told in leaves now.0 now.1 rest.kept rest.knows (rest.keeps now.0 now.1)
+    kept_on : IsNewestOfRun x2.run x.acks rest.kept
+    kept_on = kept_longer x1.run s.epochs commit_marks (omega (arith, rest.fetched_is, kept1.fetched)) x.acks rest.kept refl (kept_longer x.run s.epochs more (omega (arith, kept1.fetched)) x.acks rest.kept kept1.acked rest.kept_is)
 
-      kept_on : IsNewestOfRun (run_of limits start origin trace') acks rest.kept
-      unfolding run
-      kept_on = subst (λ (x : List Mark). IsNewestOfRun (run_of limits start origin x) acks rest.kept) (sym trace_is) (kept_longer run s.epochs behind acks rest.kept rest.kept_is)
+    committing_kept : IsCommitting x2.run (epoch_after rest.kept) g'
+    committing_kept = subst (λ (e : ℕ). IsCommitting x2.run e g') (sym rest.knows.epoch) committing
 
-      committing_kept : IsCommitting (run_of limits start origin trace') (epoch_after rest.kept) g'
-      committing_kept = subst (λ (e : ℕ). IsCommitting (run_of limits start origin trace') e g') (sym rest.knows.epoch) committing
+    stands_written : (disk' : DiskView) → LeavesNewestOrNext k g' x.disk disk' → x.disk.moment ≤ disk'.moment → disk'.blocks ≡ x.disk.blocks → disk'.writes ≤ x.disk.writes + calls_for g' → IsSafeHere (record x2 { disk = disk' })
+    stands_written disk' leaves later blocks writes = record {
+      blocks = blocks ∙ rest.safe.blocks;
+      writes = omega (arith, writes, rest.safe.writes, allowed);
+      safe = λ r told.
+          let now = told_now r told in
+          safe_during x2.run x.acks x.disk0 x.disk disk' x.disk0.moment (quiet_fetched.safe.safe r told) quiet_fetched.safe.acked rest.kept kept_on g' committing_kept (leaves now.0 now.1 rest.kept rest.knows (rest.keeps now.0 now.1));
+      acked = acks_later x2.run x.disk0.moment x.acks x.disk0 x.disk disk' later quiet_fetched.safe.acked;
+      released = quiet_fetched.safe.released;
+      unfetched = λ none. absurd (omega (arith, none, rest.begins));
+    }
 
-      stands_written : (disk' : DiskView) → LeavesNewestOrNext k g' disk disk' → disk.moment ≤ disk'.moment → disk'.blocks ≡ disk.blocks → disk'.writes ≤ disk.writes + calls_for g' → IsSafeSoFar (run_of limits start origin trace') disk0.moment acks disk0 disk' out0 out
-      stands_written disk' leaves later blocks writes = record {
-        blocks = blocks ∙ stands_fetched.blocks;
-        writes = omega (arith, writes, rest.safe.writes, allowed);
-        safe = λ r told. safe_during (run_of limits start origin trace') acks disk0 disk disk' disk0.moment (stands_fetched.safe r told) stands_fetched.acked rest.kept kept_on g' committing_kept (during disk' leaves r told);
-        acked = acks_later (run_of limits start origin trace') disk0.moment acks disk0 disk disk' later stands_fetched.acked;
-        released = stands_fetched.released;
-        unfetched = λ none. absurd (true_false (list_any is_fetch trace') any_fetch none);
+    -- the commit failed
+    pub uncommitted : (disk' : DiskView) → IsUncommitted k g' x.disk disk' → HasRun (record (logged x trace') { disk = disk' }) DiskFault
+    uncommitted disk' u =
+        subst (λ (r : RunSoFar). HasRun (record x { run = r; disk = disk' }) DiskFault) (sym run_fetched)
+        (answered (record x2 { disk = disk' }) s DiskFault so_far (stands_written disk' u.leaves u.later u.blocks u.writes) (λ other. absurd (other refl)) (rose_later x.disk0.faults x.disk.faults disk'.faults rest.disk_faults u.rose) (λ e. absurd e))
+
+    -- ---- it was acknowledged
+
+    module _ (ready : PlannedCommit) (count : ℕ) (same : count ≡ x.disk.blocks) (is_ready : IsPlanned count g' k ready) (disk' : DiskView) (trace'' : List Mark) (acks' : List AckMark)
+        (size : (r : List ℕ) → x.disk.reading ≡ Some r → length r ≡ 4096 * x.disk.blocks) (done : IsCommitted k g' ready.plan.blocks ready.plan.body x.disk disk' trace' trace'' x.acks acks') where
+      abbrev ack_marks : List Mark
+      ack_marks = Ack (k.epoch + 1) ∷ []
+
+      abbrev acked : AckMark
+      acked = record { epoch = k.epoch + 1; at = disk'.moment }
+
+      abbrev x3 : SinkView → RunHere
+      x3 out' = record x2 { run = longer x2.run ack_marks; acks = x.acks ++ acked ∷ []; disk = disk'; out = out' }
+
+      run3 : RunSoFar
+      run3 = longer x2.run ack_marks
+
+      plan : IsPlan count k.used (k.epoch + 1) g' ready.plan.blocks ready.plan.body
+      plan = is_ready.plan
+
+      kept' : NewestCheckpoint
+      kept' = kept_checkpoint (k.epoch + 1) g' plan.pages plan.metas k.target
+
+      after : List ℕ → List ℕ
+      after r = finished k.target ready.plan.blocks ready.plan.body r
+
+      holds_after : (r : List ℕ) → x.disk.reading ≡ Some r → HoldsAt (after r) (k.epoch + 1) g' plan.pages plan.metas k.target
+      unfolding after
+      holds_after r told = (plan.replaces rest.kept k.target r (before_commit count k rest.kept r rest.knows (size r told ∙ ap (λ (n : ℕ). 4096 * n) (sym same)) (rest.keeps r told))).after
+
+      told_before : (now : List ℕ) → disk'.reading ≡ Some now → (r : List ℕ) × (x.disk.reading ≡ Some r) × (now ≡ after r)
+      unfolding after
+      told_before now told = from_map x.disk.reading refl
+        where
+          from_map : (o : Option (List ℕ)) → x.disk.reading ≡ o → (r : List ℕ) × (x.disk.reading ≡ Some r) × (now ≡ after r)
+          from_map None is = let none : disk'.reading ≡ None = done.reads ∙ ap (option_map after) is in absurd (cc)
+          from_map (Some r) is = let there : disk'.reading ≡ Some (after r) = done.reads ∙ ap (option_map after) is in (r, is, cc)
+
+      keeps' : ForSome disk'.reading (λ r. HasNewest r kept')
+      unfolding kept'
+      keeps' now told =
+          let was = told_before now told in
+          subst (λ (i : List ℕ). HoldsAt i (k.epoch + 1) g' plan.pages plan.metas k.target) (sym was.2) (holds_after was.0 was.1)
+
+      held_now : (r : List ℕ) → x.disk0.reading ≡ Some r → (image : List ℕ) → LeftNow disk' image → Holds image (k.epoch + 1) g'
+      unfolding after
+      held_now r told image left =
+          let now = told_now r told in
+          let is : image ≡ after now.0 = done.only (after now.0) (done.reads ∙ ap (option_map after) now.1) image left in
+          subst (λ (i : List ℕ). Holds i (k.epoch + 1) g') (sym is) (record { pages = plan.pages; metas = plan.metas; slot = k.target; at = holds_after now.0 now.1 })
+
+      knows' : Describes ready.next kept'
+      unfolding kept'
+      knows' = record {
+        epoch = ap (λ (n : ℕ). n + 1) (sym is_ready.next.epoch);
+        used = λ b. (
+          (λ has. (plan.uses b).0 (subst (λ (l : List ℕ). Has b l) is_ready.next.used has)),
+          (λ has. subst (λ (l : List ℕ). Has b l) (sym is_ready.next.used) ((plan.uses b).1 has)),
+        );
+        target = sym is_ready.next.target;
       }
 
-      -- the commit failed
-      pub uncommitted : (disk' : DiskView) → IsUncommitted k g' disk disk' → IsSoloRun (run_of limits start origin trace') disk0.moment acks disk0 disk' out0 out DiskFault
-      uncommitted disk' u = safe_run limits start origin s trace' so_far acks disk0 disk' out0 out DiskFault (stands_written disk' u.leaves u.later u.blocks u.writes) (λ other. absurd (other refl)) (λ other. absurd (other refl)) (rose_later disk0.faults disk.faults disk'.faults rest.disk_faults u.rose) (λ e. absurd e)
+      -- the commit as it was made
+      made_commit : WholeCommit
+      made_commit = record { closes = done.closes; target = k.target; blocks = ready.plan.blocks; body = ready.plan.body }
 
-      -- ---- it was acknowledged
-      module _ (disk' : DiskView) (trace'' : List Mark) (acks' : List AckMark) (size : (r : List ℕ) → disk.reading ≡ Some r → length r ≡ 4096 * disk.blocks)
-          (done : IsCommitted k g' ready.plan.blocks ready.plan.body disk disk' trace' trace'' acks acks') where
-        plan : IsPlan count k.used (k.epoch + 1) g' ready.plan.blocks ready.plan.body
-        plan = is_ready.plan
+      committed : IsOnlyCommitted run3 (x.acks ++ acked ∷ []) x.disk0 disk'
+      unfolding run3 made_commit after
+      committed =
+          committed_more run3 acked made_commit x.acks x.disk0 x.disk disk' (committed_longer x2.run s.epochs ack_marks x.acks x.disk0 x.disk quiet_fetched.none_given_up)
+          (record { group = g'; group_is = group_at; few = plan.size; held = λ r told. record { pages = plan.pages; metas = plan.metas; slot = k.target; at = holds_after r told } }) done.writes done.reads done.only done.commits
 
-        kept' : NewestCheckpoint
-        kept' = checkpoint (k.epoch + 1) g' plan.pages plan.metas k.target
-
-        holds_after : (r : List ℕ) → disk.reading ≡ Some r → HoldsAt (finished k.target ready.plan.blocks ready.plan.body r) (k.epoch + 1) g' plan.pages plan.metas k.target
-        holds_after r told = (plan.replaces rest.kept k.target r (before_commit count k rest.kept r rest.knows (size r told ∙ ap (λ (n : ℕ). 4096 * n) (sym same)) (rest.keeps r told))).after
-
-        read_now : (r : List ℕ) → disk.reading ≡ Some r → disk'.reading ≡ Some (finished k.target ready.plan.blocks ready.plan.body r)
-        read_now r told = done.reads ∙ ap (option_map (finished k.target ready.plan.blocks ready.plan.body)) told
-
-        told_before : (now : List ℕ) → disk'.reading ≡ Some now → (r : List ℕ) × (disk.reading ≡ Some r) × (now ≡ finished k.target ready.plan.blocks ready.plan.body r)
-        told_before now told = from_map disk.reading refl
-          where
-            from_map : (o : Option (List ℕ)) → disk.reading ≡ o → (r : List ℕ) × (disk.reading ≡ Some r) × (now ≡ finished k.target ready.plan.blocks ready.plan.body r)
-            from_map None is = let none : disk'.reading ≡ None = done.reads ∙ ap (option_map (finished k.target ready.plan.blocks ready.plan.body)) is in absurd (cc)
-            from_map (Some r) is = let there = read_now r is in (r, is, cc)
-
-        keeps' : ForSome disk'.reading (λ r. HasNewest r kept')
-        unfolding kept'
-        keeps' now told =
-            let was = told_before now told in
-            subst (λ (x : List ℕ). HoldsAt x (k.epoch + 1) g' plan.pages plan.metas k.target) (sym was.2) (holds_after was.0 was.1)
-
-        held_now : (r : List ℕ) → disk0.reading ≡ Some r → (image : List ℕ) → LeftNow disk' image → Holds image (k.epoch + 1) g'
-        held_now r told image left =
-            let now = rest.told r told in
-            let is : image ≡ finished k.target ready.plan.blocks ready.plan.body now.0 = done.only (finished k.target ready.plan.blocks ready.plan.body now.0) (read_now now.0 now.1) image left in
-            subst (λ (x : List ℕ). Holds x (k.epoch + 1) g') (sym is) (record { pages = plan.pages; metas = plan.metas; slot = k.target; at = holds_after now.0 now.1 })
-
-        knows' : Describes ready.next kept'
-        unfolding kept'
-        knows' = record {
-          epoch = ap (λ (n : ℕ). n + 1) (sym is_ready.next.epoch);
-          used = λ b. (
-            (λ has. (plan.uses b).0 (subst (λ (l : List ℕ). Has b l) is_ready.next.used has)),
-            (λ has. subst (λ (l : List ℕ). Has b l) (sym is_ready.next.used) ((plan.uses b).1 has)),
-          );
-          target = sym is_ready.next.target;
-        }
-
-        one_ack : filter_map acked_epoch (Ack (k.epoch + 1) ∷ []) ≡ (k.epoch + 1) ∷ []
-        one_ack = refl
-
-        stands_acked : (out' : SinkView) → Released (run_of limits start origin trace'') acks' out0 out' → IsSafeSoFar (run_of limits start origin trace'') disk0.moment acks' disk0 disk' out0 out'
-        stands_acked out' r =
-            let w = stands_written disk' done.leaves done.later done.blocks done.writes in
-            let acked : AckMark = record { epoch = k.epoch + 1; at = disk'.moment } in
-            let P : List Mark → List AckMark → Type 0 = λ t a. Released (run_of limits start origin t) a out0 out' → IsSafeSoFar (run_of limits start origin t) disk0.moment a disk0 disk' out0 out' in
-            let made : P (trace' ++ Ack (k.epoch + 1) ∷ []) (acks ++ acked ∷ []) = λ r. record {
+      quiet_acked : (out' : SinkView) → Released run3 x.out0 out' → IsQuiet (x3 out')
+      unfolding run3
+      quiet_acked out' r =
+          let w = stands_written disk' done.leaves done.later done.blocks (committed_calls g' done.closes ready.plan.blocks x.disk.writes disk'.writes plan.size done.writes) in
+          record {
+            safe = record {
               blocks = w.blocks;
-              writes = omega (arith, w.writes, allowed_longer (run_of limits start origin trace') s.epochs (Ack (k.epoch + 1) ∷ []));
-              safe = λ b told. safe_acked (run_of limits start origin trace') s.epochs (Ack (k.epoch + 1) ∷ []) (k.epoch + 1) disk0.moment acks disk0 disk' g' (w.safe b told) committing (held_now b told);
-              acked = acks_more (run_of limits start origin trace') (Ack (k.epoch + 1) ∷ []) (k.epoch + 1) disk0.moment acks disk0 disk disk' done.later one_ack stands_fetched.acked;
+              writes = omega (arith, w.writes, allowed_longer x2.run s.epochs ack_marks);
+              safe = λ b told. safe_acked x2.run s.epochs ack_marks (omega arith) (k.epoch + 1) x.disk0.moment x.acks x.disk0 disk' g' (w.safe b told) committing (held_now b told);
+              acked = acks_more x2.run (k.epoch + 1) x.disk0.moment x.acks x.disk0 disk' w.acked;
               released = r;
-              unfetched = λ none. absurd (true_false (list_any is_fetch trace') any_fetch (any_false is_fetch trace' (Ack (k.epoch + 1) ∷ []) none));
-            } in
-            subst (λ (t : List Mark). P t acks') (sym done.trace_is) (subst (λ (a : List AckMark). P (trace' ++ Ack (k.epoch + 1) ∷ []) a) (sym done.acks_is) made) r
+              unfetched = λ none. w.unfetched none;
+            };
+            current = λ r told image left. inl (g', group_at, held_now r told image left);
+            none_given_up = committed;
+          }
 
-        commit_at : trace'' ≡ acknowledged f.marks (k.epoch + 1)
-        commit_at = done.trace_is ∙ ap (λ (l : List Mark). l ++ Ack (k.epoch + 1) ∷ []) f.trace_is
+      stands' : IsTraceAtRest x.run.start x.run.origin x.run.limits run3.trace run3.now
+      unfolding run3
+      stands' =
+          let is : with_ack f.marks (k.epoch + 1) ≡ x2.run.trace ++ ack_marks = ap (λ (l : List Mark). l ++ ack_marks) (sym f.trace_is ∙ trace_is) in
+          subst (λ (l : List Mark). IsTraceAtRest x.run.start x.run.origin x.run.limits l run3.now) is (s.rests.commit f.marks x1.run.now (k.epoch + 1) on.0 due next)
 
-        stands' : IsTraceAtRest start origin limits trace'' g' made' 0 (k.epoch + 1)
-        stands' =
-            subst (λ (l : List Mark). IsTraceAtRest start origin limits l g' made' 0 (k.epoch + 1)) (sym commit_at)
-            (subst (λ (x : Group). IsTraceAtRest start origin limits (acknowledged f.marks (k.epoch + 1)) x made' 0 (k.epoch + 1)) (sym f.group_is) (s.rests.commit f.marks f.before made' f.comes.since k.epoch turned_to f.comes.due))
+      has' : HasProgress g' made' 0 run3.now
+      unfolding run3
+      has' = record { group = ap group_barrier on.1.group ∙ sym f.group_is; made_is = on.1.made_is ∙ sym f.comes.made_is; since_is = refl }
 
-        group_at' : IsGroupOf limits.quantum start origin trace'' (k.epoch + 1) g'
-        group_at' = subst (λ (t : List Mark). IsGroupOf limits.quantum start origin t (k.epoch + 1) g') (sym done.trace_is) (s.epochs.later trace' (Ack (k.epoch + 1) ∷ []) (k.epoch + 1) g' group_at)
+      -- ---- the release
 
-        kept_is' : IsLastBarrier (run_of limits start origin trace'') acks' (k.epoch + 1) g'
-        unfolding run
-        kept_is' =
-            let P : List Mark → List AckMark → Type 0 = λ t a. IsLastBarrier (run_of limits start origin t) a (k.epoch + 1) g' in
-            let below = subst (λ (e : ℕ). AllByRecursion (λ (a : AckMark). a.epoch ≤ e) acks) rest.knows.epoch (acks_below run acks rest.kept rest.kept_is) in
-            subst (λ (t : List Mark). P t acks') (sym done.trace_is) (subst (λ (a : List AckMark). P (trace' ++ Ack (k.epoch + 1) ∷ []) a) (sym done.acks_is)
-            (kept_acked (run_of limits start origin trace') s.epochs (Ack (k.epoch + 1) ∷ []) (k.epoch + 1) disk'.moment acks g' committing below))
+      before_mark : f.before.frame.out.mark ≡ g.frame.out.mark
+      before_mark = f.comes.turned.mark_is
 
-        current_acked : ForSome disk0.reading (λ r. (image : List ℕ) → LeftNow disk' image → HoldsLastAcknowledged (run_of limits start origin trace'') acks' image)
-        current_acked r told image left =
-            inl (g', subst (λ (e : ℕ). IsGroupOf limits.quantum start origin trace'' e g') (sym kept_is'.last) group_at', subst (λ (e : ℕ). Holds image e g') (sym kept_is'.last) (held_now r told image left))
+      last_same : last_position g'.frame.out ≡ last_position f.before.frame.out
+      last_same =
+          ap (λ (h : Group). last_position h.frame.out) f.group_is
+          ∙ subst (λ (h : Group). last_position (group_barrier h).frame.out ≡ last_position h.frame.out) on.1.group (s.lets_out.stays f.marks x1.run.now (k.epoch + 1) on.0)
 
-        written_acked : disk'.writes ≤ disk0.writes + writes_acknowledged (run_of limits start origin trace'')
-        written_acked =
-            let one = acknowledged_more (run_of limits start origin trace') s.epochs (k.epoch + 1) g' group_at in
-            subst (λ (t : List Mark). disk'.writes ≤ disk0.writes + writes_acknowledged (run_of limits start origin t)) (sym done.trace_is) (omega (arith, written_fetched, done.writes, one))
+      reaches_all : last_position g'.frame.out ≡ x.run.start.frame.out.from + length run3.now.output
+      reaches_all = ap (λ (h : Group). last_position h.frame.out) (sym has'.group) ∙ s.lets_out.reaches run3.trace run3.now stands'
 
-        -- ---- the release
-        reaches_all : last_position g'.frame.out ≡ start.frame.out.from + length (output limits.quantum start trace'')
-        reaches_all = s.lets_out.reaches trace'' g' made' 0 (k.epoch + 1) stands'
+      -- what the barrier left is the output from the old mark on
+      piece_is : output_between x.run.start run3.now g.frame.out.mark (last_position g'.frame.out) ≡ g'.frame.out.bytes
+      unfolding run3
+      piece_is =
+          ap (λ (n : ℕ). output_between x.run.start run3.now g.frame.out.mark n) last_same
+          ∙ ap (λ (n : ℕ). output_between x.run.start run3.now n (last_position f.before.frame.out)) (sym before_mark)
+          ∙ subst (λ (h : Group). output_between x.run.start run3.now h.frame.out.mark (last_position h.frame.out) ≡ (group_barrier h).frame.out.bytes) on.1.group
+          (s.lets_out.lets_out f.marks (commit_marks ++ ack_marks) x1.run.now (k.epoch + 1) on.0)
+          ∙ ap (λ (h : Group). h.frame.out.bytes) (sym f.group_is)
 
-        before_mark : f.before.frame.out.mark ≡ g.frame.out.mark
-        before_mark = sym (ap (λ (x : Group). x.frame.out.from) f.group_is) ∙ f.from_is
+      rest_is : rest_of g'.frame.out x.out ≡ g'.frame.out.bytes
+      rest_is = let none : x.out.count - g'.frame.out.from ≡ 0 = omega (arith, rest.out_at, f.from_is) in ap (λ (n : ℕ). drop n g'.frame.out.bytes) none
 
-        whole_trace : trace'' ≡ f.marks ++ (Barrier (k.epoch + 1) ∷ Fetch (k.epoch + 1) ∷ Ack (k.epoch + 1) ∷ [])
-        whole_trace =
-            commit_at
-            ∙ append_assoc (f.marks ++ Barrier (k.epoch + 1) ∷ []) (Fetch (k.epoch + 1) ∷ []) (Ack (k.epoch + 1) ∷ [])
-            ∙ append_assoc f.marks (Barrier (k.epoch + 1) ∷ []) (Fetch (k.epoch + 1) ∷ Ack (k.epoch + 1) ∷ [])
+      mark_far : g'.frame.out.mark ≡ g.frame.out.mark + length g'.frame.out.bytes
+      mark_far = omega (arith, f.checkpointed.all_marked, f.from_is)
 
-        last_same : last_position g'.frame.out ≡ last_position f.before.frame.out
-        last_same =
-            ap (λ (x : Group). last_position x.frame.out) f.group_is
-            ∙ s.lets_out.stays f.marks f.before made' f.comes.since k.epoch turned_to
+      reached_on : (out' : SinkView) (m : ℕ) → m ≤ length g'.frame.out.bytes → Takes (take m g'.frame.out.bytes) x.out out' → Reached run3 x.out0 out' (g.frame.out.mark + m)
+      unfolding run3
+      reached_on out' m le taken =
+          let r1 = reached_longer x.run s.parts more x.out0 x.out g.frame.out.mark rest.reached in
+          let r3 = reached_longer x2.run s.parts ack_marks x.out0 x.out g.frame.out.mark (reached_longer x1.run s.parts commit_marks x.out0 x.out g.frame.out.mark r1) in
+          reached_more run3 s.parts x.out0 x.out out' g.frame.out.mark (last_position g'.frame.out) m g'.frame.out.bytes r3 (omega (arith, mark_far, f.checkpointed.all_marked)) (omega (arith, reaches_all)) piece_is le taken
 
-        -- what the barrier left is the output from the old mark on
-        piece_is : output_between limits.quantum start trace'' g.frame.out.mark (last_position g'.frame.out) ≡ g'.frame.out.bytes
-        piece_is =
-            ap (λ (n : ℕ). output_between limits.quantum start trace'' g.frame.out.mark n) last_same
-            ∙ ap (λ (n : ℕ). output_between limits.quantum start trace'' n (last_position f.before.frame.out)) (sym before_mark)
-            ∙ ap (λ (t : List Mark). output_between limits.quantum start t f.before.frame.out.mark (last_position f.before.frame.out)) whole_trace
-            ∙ s.lets_out.lets_out f.marks (Barrier (k.epoch + 1) ∷ Fetch (k.epoch + 1) ∷ Ack (k.epoch + 1) ∷ []) f.before made' f.comes.since k.epoch turned_to
-            ∙ ap (λ (x : Group). x.frame.out.bytes) (sym f.group_is)
+      released_on : (out' : SinkView) (m : ℕ) → m ≤ length g'.frame.out.bytes → Takes (take m g'.frame.out.bytes) x.out out' → Released run3 x.out0 out'
+      unfolding run3
+      released_on out' m le taken =
+          let prompt = in_time (g.frame.out.mark + m) (omega arith) in
+          released run3 x.out0 out' (g.frame.out.mark + m) g'.frame.out.mark (reached_on out' m le taken) (ap (option_map (λ (h : Group). h.frame.out.mark)) group_at) (omega (arith, mark_far, le))
+          (record { begun = inr (omega (arith, rest.covered.begun)); fetched = prompt.fetched })
 
-        rest_is : rest_of g'.frame.out out ≡ g'.frame.out.bytes
-        rest_is = let none : out.count - g'.frame.out.from ≡ 0 = omega (arith, rest.out_at, f.from_is) in ap (λ (n : ℕ). drop n g'.frame.out.bytes) none
+      -- the log has it
+      as_logged : (P : RunSoFar → List AckMark → Type 0) → P run3 (x.acks ++ acked ∷ []) → P (run_of x.run.limits x.run.start x.run.origin trace'') acks'
+      unfolding run3
+      as_logged P p =
+          let is = run_longer x.run.limits x.run.start x.run.origin trace' ack_marks trace'' done.trace_is ∙ ap (λ (r : RunSoFar). longer r ack_marks) run_fetched in
+          subst (λ (a : List AckMark). P (run_of x.run.limits x.run.start x.run.origin trace'') a) (sym done.acks_is) (subst (λ (r : RunSoFar). P r (x.acks ++ acked ∷ [])) (sym is) p)
 
-        reached_here : Reached (run_of limits start origin trace'') out0 out g.frame.out.mark
-        unfolding run
-        reached_here =
-            let one = reached_longer run s.parts behind out0 out g.frame.out.mark rest.reached in
-            let two = subst (λ (t : List Mark). Reached (run_of limits start origin t) out0 out g.frame.out.mark) (sym trace_is) one in
-            subst (λ (t : List Mark). Reached (run_of limits start origin t) out0 out g.frame.out.mark) (sym done.trace_is) (reached_longer (run_of limits start origin trace') s.parts (Ack (k.epoch + 1) ∷ []) out0 out g.frame.out.mark two)
+      -- the output failed
+      pub unreleased : (out' : SinkView) → ReleasesPart g'.frame.out x.out out' → HasRun (record (logged x trace'') { acks = acks'; disk = disk'; out = out' }) SinkFault
+      unfolding run3
+      unreleased out' r =
+          let part : TakesPart g'.frame.out.bytes x.out out' = subst (λ (l : List ℕ). TakesPart l x.out out') rest_is r.part in
+          let q = quiet_acked out' (released_on out' part.0 (omega (arith, part.1)) part.2) in
+          as_logged (λ r a. HasRun (record x { run = r; acks = a; disk = disk'; out = out' }) SinkFault) (answered (x3 out') s SinkFault stands'.so_far q.safe (λ other. q) (rose_later x.out0.faults x.out.faults out'.faults rest.out_faults r.rose) (λ e. absurd e))
 
-        mark_far : g'.frame.out.mark ≡ g.frame.out.mark + length g'.frame.out.bytes
-        mark_far = omega (arith, f.checkpointed.all_marked, f.from_is)
+      rests_then : (out' : SinkView) → 16 ≤ x.disk.blocks → ReleasesRest g'.frame.out x.out out' → IsRunAtRest (x3 out') g' ready.next made'
+      unfolding kept' run3 after
+      rests_then out' least r =
+          let all : Takes (take (length g'.frame.out.bytes) g'.frame.out.bytes) x.out out' = subst (λ (l : List ℕ). Takes l x.out out') (rest_is ∙ sym (take_all (length g'.frame.out.bytes) g'.frame.out.bytes (omega arith))) r.taken in
+          let count : out'.count ≡ x.out.count + length g'.frame.out.bytes = r.taken.count ∙ ap (λ (l : List ℕ). x.out.count + length l) rest_is in
+          let q = quiet_acked out' (released_on out' (length g'.frame.out.bytes) (omega arith) all) in
+          record {
+            has = has';
+            stands = stands';
+            last_is = sym is_ready.next.epoch;
+            fetched_is = sym is_ready.next.epoch;
+            begins = omega (arith, rest.begins, is_ready.next.epoch);
+            checkpointed = f.checkpointed;
+            position = omega (arith, rest.position, f.comes.turned.grown, f.comes.made_is, last_same);
+            epochs = omega (arith, is_ready.next.epoch, rest.epochs, f.comes.made_is, f.comes.some);
+            within = omega (arith, f.comes.turned.within, f.comes.made_is);
+            safe = q.safe;
+            none_given_up = q.none_given_up;
+            disk_faults = omega (arith, rest.disk_faults, done.faults);
+            out_faults = omega (arith, rest.out_faults, r.faults);
+            gates = λ now told.
+                let was = told_before now told in
+                subst (λ (i : List ℕ). DescribesGates ready.next i) (sym was.2)
+                (is_ready.next.gates x.disk.blocks ready.plan.body was.0 least (size was.0 was.1) (subst (λ (n : ℕ). AllByRecursion (IsDataBlock n) ready.plan.blocks) same plan.placed) (rest.gates was.0 was.1));
+            kept = kept';
+            knows = knows';
+            keeps = keeps';
+            kept_is = kept_acked x2.run s.epochs (k.epoch + 1) disk'.moment x.acks g' committing (subst (λ (e : ℕ). AllByRecursion (λ (a : AckMark). a.epoch ≤ e) x.acks) rest.knows.epoch (acks_below x.run x.acks rest.kept rest.kept_is));
+            group_is = subst (λ (e : ℕ). IsGroupOf run3.now e g') (sym is_ready.next.epoch) group_at;
+            reached = subst (λ (n : ℕ). Reached run3 x.out0 out' n) (sym mark_far) (reached_on out' (length g'.frame.out.bytes) (omega arith) all);
+            out_at = omega (arith, count, rest.out_at, mark_far);
+            covered = covered_now;
+          }
+        where
+          covered_now : Covered run3 g'.frame.out.mark
+          covered_now =
+              let two = subst (λ (r : RunSoFar). Covered r g'.frame.out.mark) same2
+              (covered_more x.run g.frame.out.mark rest.covered both (checkpoint x1.run.now (k.epoch + 1)) (ap (λ (r : RunSoFar). r.now.checkpoints) same2 ∙ adds) g'.frame.out.mark (omega (arith, mark_far)) (omega (arith, ap (λ (h : Group). h.frame.out.mark) has'.group))) in
+              record { begun = two.begun; marks = two.marks }
 
-        reached_on : (out' : SinkView) (m : ℕ) → m ≤ length g'.frame.out.bytes → Takes (take m g'.frame.out.bytes) out out' → Reached (run_of limits start origin trace'') out0 out' (g.frame.out.mark + m)
-        reached_on out' m le taken = reached_more (run_of limits start origin trace'') s.parts out0 out out' g.frame.out.mark (last_position g'.frame.out) m g'.frame.out.bytes reached_here (omega (arith, mark_far, f.checkpointed.all_marked)) (omega (arith, reaches_all)) piece_is le taken
-
-        mark_after : mark_of limits.quantum start origin trace'' (last_acked (run_of limits start origin trace'') acks') ≡ Some g'.frame.out.mark
-        mark_after = ap (λ (e : ℕ). mark_of limits.quantum start origin trace'' e) kept_is'.last ∙ ap (option_map (λ (x : Group). x.frame.out.mark)) group_at'
-
-        covered_acked : Covered (run_of limits start origin trace'') k.epoch g.frame.out.mark
-        covered_acked = subst (λ (x : List Mark). Covered (run_of limits start origin x) k.epoch g.frame.out.mark) (sym done.trace_is) (covered_more (run_of limits start origin trace') s.epochs (Ack (k.epoch + 1) ∷ []) k.epoch g.frame.out.mark covered_fetched (behind_ack k.epoch (k.epoch + 1)))
-
-        covered_on : (m : ℕ) → Covered (run_of limits start origin trace'') k.epoch (g.frame.out.mark + m)
-        covered_on m = covered_up (run_of limits start origin trace'') k.epoch g.frame.out.mark (g.frame.out.mark + m) covered_acked (omega arith)
-
-        released_on : (out' : SinkView) (m : ℕ) → m ≤ length g'.frame.out.bytes → Takes (take m g'.frame.out.bytes) out out' → Released (run_of limits start origin trace'') acks' out0 out'
-        released_on out' m le taken = released (run_of limits start origin trace'') acks' out0 out' (g.frame.out.mark + m) g'.frame.out.mark (reached_on out' m le taken) mark_after (omega (arith, mark_far, le)) (released_in_time (run_of limits start origin trace'') k.epoch (g.frame.out.mark + m) (covered_on m))
-
-        -- the output failed
-        pub unreleased : (out' : SinkView) → ReleasesPart g'.frame.out out out' → IsSoloRun (run_of limits start origin trace'') disk0.moment acks' disk0 disk' out0 out' SinkFault
-        unreleased out' r =
-            let part : TakesPart g'.frame.out.bytes out out' = subst (λ (l : List ℕ). TakesPart l out out') rest_is r.part in
-            safe_run limits start origin s trace'' stands'.so_far acks' disk0 disk' out0 out' SinkFault (stands_acked out' (released_on out' part.0 (omega (arith, part.1)) part.2)) (λ other. current_acked) (λ other. written_acked) (rose_later out0.faults out.faults out'.faults rest.out_faults r.rose) (λ e. absurd e)
-
-        -- an interval more
-        pub rests_again : (out' : SinkView) → 16 ≤ disk.blocks → ReleasesRest g'.frame.out out out' → IsRunAtRest limits start origin disk0 out0 g' ready.next made' trace'' acks' disk' out'
-        unfolding kept'
-        rests_again out' least r =
-            let all : Takes (take (length g'.frame.out.bytes) g'.frame.out.bytes) out out' = subst (λ (l : List ℕ). Takes l out out') (rest_is ∙ sym (take_all (length g'.frame.out.bytes) g'.frame.out.bytes (omega arith))) r.taken in
-            let count : out'.count ≡ out.count + length g'.frame.out.bytes = r.taken.count ∙ ap (λ (l : List ℕ). out.count + length l) rest_is in
-            record {
-              stands = subst (λ (e : ℕ). IsTraceAtRest start origin limits trace'' g' made' 0 e) (sym is_ready.next.epoch) stands';
-              checkpointed = f.checkpointed;
-              position = omega (arith, rest.position, f.comes.turned.grown, f.comes.turned.made_is, last_same);
-              epochs = omega (arith, is_ready.next.epoch, rest.epochs, f.comes.turned.made_is, f.comes.due.0);
-              within = f.comes.turned.within;
-              safe = stands_acked out' (released_on out' (length g'.frame.out.bytes) (omega arith) all);
-              none_given_up = written_acked;
-              disk_faults = omega (arith, rest.disk_faults, done.faults);
-              out_faults = omega (arith, rest.out_faults, r.faults);
-              told = λ b told. let now = rest.told b told in (finished k.target ready.plan.blocks ready.plan.body now.0, read_now now.0 now.1);
-              only = done.only;
-              gates = λ now told.
-                  let was = told_before now told in
-                  subst (λ (x : List ℕ). DescribesGates ready.next x) (sym was.2)
-                  (is_ready.next.gates disk.blocks ready.plan.body was.0 least (size was.0 was.1) (subst (λ (n : ℕ). AllByRecursion (IsDataBlock n) ready.plan.blocks) same plan.placed) (rest.gates was.0 was.1));
-              kept = kept';
-              knows = knows';
-              keeps = keeps';
-              kept_is = kept_is';
-              group_is = subst (λ (e : ℕ). IsGroupOf limits.quantum start origin trace'' e g') (sym is_ready.next.epoch) group_at';
-              last = kept_is'.last ∙ sym is_ready.next.epoch;
-              reached = subst (λ (n : ℕ). Reached (run_of limits start origin trace'') out0 out' n) (sym mark_far) (reached_on out' (length g'.frame.out.bytes) (omega arith) all);
-              out_at = omega (arith, count, rest.out_at, mark_far);
-              covered = subst (λ (e : ℕ). Covered (run_of limits start origin trace'') e g'.frame.out.mark) (sym is_ready.next.epoch)
-                  (covered_next (run_of limits start origin trace'') k.epoch g.frame.out.mark g'.frame.out.mark covered_acked (ap (option_map (λ (x : Group). x.frame.out.mark)) group_at') (omega (arith, mark_far)));
-            }
+      -- an interval more
+      pub rests_again : (out' : SinkView) → 16 ≤ x.disk.blocks → ReleasesRest g'.frame.out x.out out' → IsRunAtRest (record (logged x trace'') { acks = acks'; disk = disk'; out = out' }) g' ready.next made'
+      unfolding run3
+      rests_again out' least r = as_logged (λ r a. IsRunAtRest (record x { run = r; acks = a; disk = disk'; out = out' }) g' ready.next made') (rests_then out' least r)
 
   -- ---- the end
-  pub ended : (answer : RunAnswer) → (ready g ≡ []) ⊎ (limits.turns ≤ made) → EndsIn g answer → IsSoloRun (run_of limits start origin trace) disk0.moment acks disk0 disk out0 out answer
-  ended answer over ends = safe_run limits start origin s trace rest.stands.so_far acks disk0 disk out0 out answer rest.safe (λ other. current_now) (λ other. rest.none_given_up) (by_answer answer ends) (by_itself answer ends)
+
+  pub ended : (answer : RunAnswer) → IsNoneReady g ⊎ (x.run.limits.turns ≤ made) → EndsIn g answer → HasRun x answer
+  ended answer over ends = answered x s answer rest.stands.so_far rest.safe (λ other. quiet) (by_answer answer ends) (by_itself answer ends)
     where
-      current_now : ForSome disk0.reading (λ r. (image : List ℕ) → LeftNow disk image → HoldsLastAcknowledged (run_of limits start origin trace) acks image)
-      current_now = subst (λ (t : List Mark). ForSome disk0.reading (λ r. (image : List ℕ) → LeftNow disk image → HoldsLastAcknowledged (run_of limits start origin t) acks image)) (append-nil trace) (current_on [])
+      settled : IsSettled x.run.now
+      settled = record { rests = rest.stands.rests; no_turn = rest.has.since_is }
 
-      settled : IsSettled trace
-      settled = record { no_lease = rest.stands.no_lease; acked = rest.stands.acked; no_turn = rest.stands.since_is }
+      whole : IsWhole x.run x.out
+      whole = record { settled = settled; all_out = rest.out_at ∙ rest.checkpointed.all_marked ∙ ap (λ (h : Group). last_position h.frame.out) (sym rest.has.group) }
 
-      whole : IsWhole (run_of limits start origin trace) out
-      whole = record {
-        settled = settled;
-        all_out = rest.out_at ∙ rest.checkpointed.all_marked ∙ ap (λ (x : Group). last_position x.frame.out) (sym rest.stands.group);
-      }
+      done : IsDone g → IsDone x.run.now.state.group
+      done is = subst IsDone (sym rest.has.group) is
 
-      all_made : (ready g ≡ []) ⊎ (limits.turns ≤ made) → (ready g ≡ [] → ⊥) → made ≡ limits.turns
-      all_made (inl none) some = absurd (some none)
+      stuck : EndsIn g Stuck → IsStuck x.run.now.state
+      stuck is = at_group IsStuck g x.run.now rest.has.group is
+
+      all_made : IsNoneReady g ⊎ (x.run.limits.turns ≤ made) → (ready (record { group = g; standing = x.run.now.state.standing }) ≡ [] → ⊥) → made ≡ x.run.limits.turns
+      all_made (inl none) some = absurd (some (none x.run.now.state.standing))
       all_made (inr all) some = omega (arith, all, rest.within)
 
-      spent : EndsIn g Spent → IsSpent limits trace g
-      spent e = record { turns = rest.stands.made_is ∙ all_made over e.2; not_done = e.0; not_stuck = e.1 }
+      spent : EndsIn g Spent → IsSpent x.run.limits x.run.now
+      spent e = record {
+        turns = rest.has.made_is ∙ all_made over (e.1 x.run.now.state.standing).1;
+        not_done = λ is. e.0 (subst IsDone rest.has.group is);
+        not_stuck = λ is. at_group (λ s. IsStuck s → ⊥) g x.run.now rest.has.group (λ standing. (e.1 standing).0) is;
+      }
 
-      solo : IsDone g ⊎ (IsStuck g ⊎ IsSpent limits trace g) → IsSoloTrace start origin limits trace
-      solo over = record { so_far = rest.stands.so_far; ended = (settled, subst (λ (x : Group). IsDone x ⊎ (IsStuck x ⊎ IsSpent limits trace x)) (sym rest.stands.group) over) }
+      solo : IsDone x.run.now.state.group ⊎ (IsStuck x.run.now.state ⊎ IsSpent x.run.limits x.run.now) → IsSoloTrace x.run.start x.run.origin x.run.limits x.run.trace
+      solo end = record { so_far = rest.stands.so_far; ended = subst (λ (r : Progress). IsSettled r × (IsDone r.state.group ⊎ (IsStuck r.state ⊎ IsSpent x.run.limits r))) (sym rest.stands.stands) (settled, end) }
 
-      by_itself : (answer : RunAnswer) → EndsIn g answer → EndsByItself answer → IsSoloTrace start origin limits trace
-      by_itself Done e itself = solo (inl e)
-      by_itself Stuck e itself = solo (inr (inl e))
+      by_itself : (answer : RunAnswer) → EndsIn g answer → EndsByItself answer → IsSoloTrace x.run.start x.run.origin x.run.limits x.run.trace
+      by_itself Done e itself = solo (inl (done e))
+      by_itself Stuck e itself = solo (inr (inl (stuck e)))
       by_itself Spent e itself = solo (inr (inr (spent e)))
       by_itself DiskFault e itself = absurd e
       by_itself SinkFault e itself = absurd e
       by_itself (DiskFull need free) e itself = absurd e
       by_itself NoMemory e itself = absurd e
 
-      by_answer : (answer : RunAnswer) → EndsIn g answer → EndsFor (run_of limits start origin trace) disk0 disk out0 out answer
-      by_answer Done e = (whole, subst IsDone (sym rest.stands.group) e)
-      by_answer Stuck e = (whole, subst IsStuck (sym rest.stands.group) e)
-      by_answer Spent e = (whole, subst (IsSpent limits trace) (sym rest.stands.group) (spent e))
+      by_answer : (answer : RunAnswer) → EndsIn g answer → EndsFor x.run x.disk0 x.disk x.out0 x.out answer
+      by_answer Done e = (whole, done e)
+      by_answer Stuck e = (whole, stuck e)
+      by_answer Spent e = (whole, spent e)
       by_answer DiskFault e = absurd e
       by_answer SinkFault e = absurd e
       by_answer (DiskFull need free) e = absurd e
       by_answer NoMemory e = absurd e
-
--- ---- the start
-
--- What is known of a disk and of an output when a run begins.
-module _ (limits : Limits) (start : Group) (epoch : ℕ) (s : IsStart limits start epoch) (disk : DiskView) (out : SinkView) (only : OnlyReading disk)
-    (kept : NewestCheckpoint) (next : epoch_after kept ≡ epoch + 1) (first : IsNewestAtStart start kept) (keeps : ForSome disk.reading (λ r. HasNewest r kept))
-    (least : start.frame.out.from ≤ out.count) (most : out.count ≤ last_position start.frame.out) where
-  run0 : RunSoFar
-  run0 = run_of limits start epoch []
-
-  kept_first : (kept : NewestCheckpoint) → epoch_after kept ≡ epoch + 1 → IsNewestAtStart start kept → IsNewestOfRun (run_of limits start epoch []) [] kept
-  kept_first nothing next first = let same : 1 ≡ epoch + 1 = next in (omega (arith, same), refl)
-  kept_first (checkpoint e h pages metas slot) next first =
-      let at : e ≡ epoch = let same : e + 1 ≡ epoch + 1 = next in omega (arith, same) in
-      record {
-        group_is = ap (λ (n : ℕ). group_of_epoch limits.quantum start epoch [] n) at ∙ s.epochs.first [] ∙ ap (λ (x : Group). Some x) (sym first);
-        last = sym at;
-        none_above = tt;
-        barrier = inl (refl, at);
-      }
-
-  -- nothing is committed yet
-  one_kept : (kept : NewestCheckpoint) → epoch_after kept ≡ epoch + 1 → IsNewestAtStart start kept → (image : List ℕ) → HasNewest image kept → HoldsOne (run_of limits start epoch []) image
-  one_kept nothing next first image keeps = let same : 1 ≡ epoch + 1 = next in inr (inr (omega (arith, same), keeps))
-  one_kept (checkpoint e h pages metas slot) next first image keeps =
-      let at : e ≡ epoch = let same : e + 1 ≡ epoch + 1 = next in omega (arith, same) in
-      let held : Holds image e h = record { pages = pages; metas = metas; slot = slot; at = keeps } in
-      inr (inl (subst (λ (n : ℕ). Holds image n start) at (subst (λ (g : Group). Holds image e g) first held)))
-
-  one_now : (r : List ℕ) → disk.reading ≡ Some r → (image : List ℕ) → LeftNow disk image → HoldsOne (run_of limits start epoch []) image
-  one_now r told image left = one_kept kept next first image (subst (λ (x : List ℕ). HasNewest x kept) (sym (only r told image left)) (keeps r told))
-
-  current_first : ForSome disk.reading (λ r. (image : List ℕ) → LeftNow disk image → HoldsLastAcknowledged (run_of limits start epoch []) [] image)
-  current_first r told image left = by_kept kept next first (subst (λ (x : List ℕ). HasNewest x kept) (sym (only r told image left)) (keeps r told))
-    where
-      by_kept : (kept : NewestCheckpoint) → epoch_after kept ≡ epoch + 1 → IsNewestAtStart start kept → HasNewest image kept → HoldsLastAcknowledged (run_of limits start epoch []) [] image
-      by_kept nothing next first keeps = let same : 1 ≡ epoch + 1 = next in inr (omega (arith, same), refl, keeps)
-      by_kept (checkpoint e h pages metas slot) next first keeps =
-          let at : e ≡ epoch = let same : e + 1 ≡ epoch + 1 = next in omega (arith, same) in
-          let held : Holds image e h = record { pages = pages; metas = metas; slot = slot; at = keeps } in
-          inl (start, s.epochs.first [], subst (λ (n : ℕ). Holds image n start) at (subst (λ (g : Group). Holds image e g) first held))
-
-  reaches : last_position start.frame.out ≡ start.frame.out.from + length (output limits.quantum start [])
-  reaches = s.lets_out.reaches [] start 0 0 epoch s.rests.begin
-
-  reached_none : Reached (run_of limits start epoch []) out out out.count
-  reached_none = record {
-    first = least;
-    least = omega arith;
-    there = omega (arith, most, reaches);
-    taken = subst (λ (l : List ℕ). Takes l out out) (sym (s.parts.none [] out.count)) (takes_none out);
-  }
-
-  stands_first : (out' : SinkView) → Released (run_of limits start epoch []) [] out out' → IsSafeSoFar (run_of limits start epoch []) disk.moment [] disk disk out out'
-  stands_first out' r = record {
-    blocks = refl;
-    writes = omega arith;
-    safe = λ b told. record {
-      acknowledged = tt;
-      opened = λ image left. one_now b told image left;
-      entered = λ t image le left. inl left;
-    };
-    acked = record { epochs = refl; opening = omega arith; moments = omega arith };
-    released = r;
-    unfetched = λ none. record { blocks = refl; reading = refl; writes = refl; later = omega arith; left = λ t image le left. left; commits = λ none. inl refl };
-  }
-
-  piece_first : output_between limits.quantum start [] out.count (last_position start.frame.out) ≡ rest_of start.frame.out out
-  piece_first = s.parts.begun [] out.count
-
-  reached_first : (out' : SinkView) (m : ℕ) → m ≤ length (rest_of start.frame.out out) → Takes (take m (rest_of start.frame.out out)) out out' → Reached (run_of limits start epoch []) out out' (out.count + m)
-  reached_first out' m le taken =
-      reached_more (run_of limits start epoch []) s.parts out out out' out.count (last_position start.frame.out) m (rest_of start.frame.out out) reached_none most
-      (omega (arith, reaches)) piece_first le taken
-
-  mark_first : mark_of limits.quantum start epoch [] (last_acked (run_of limits start epoch []) []) ≡ Some start.frame.out.mark
-  mark_first = ap (option_map (λ (x : Group). x.frame.out.mark)) (s.epochs.first [])
-
-  rest_size : out.count + length (rest_of start.frame.out out) ≡ start.frame.out.mark
-  rest_size = omega (arith, least, most, s.checkpointed.all_marked, length-drop (out.count - start.frame.out.from) start.frame.out.bytes)
-
-  released_first : (out' : SinkView) (m : ℕ) → m ≤ length (rest_of start.frame.out out) → Takes (take m (rest_of start.frame.out out)) out out' → Released (run_of limits start epoch []) [] out out'
-  released_first out' m le taken = released (run_of limits start epoch []) [] out out' (out.count + m) start.frame.out.mark (reached_first out' m le taken) mark_first (omega (arith, le, rest_size)) (in_time_at_start limits start epoch (out.count + m))
-
-  -- the output failed at once
-  pub unreleased_first : (out' : SinkView) → ReleasesPart start.frame.out out out' → IsSoloRun (run_of limits start epoch []) disk.moment [] disk disk out out' SinkFault
-  unreleased_first out' r = safe_run limits start epoch s [] s.rests.begin.so_far [] disk disk out out' SinkFault (stands_first out' (released_first out' r.part.0 (omega (arith, r.part.1)) r.part.2)) (λ other. current_first) (λ other. omega arith) r.rose (λ e. absurd e)
-
-  -- want of memory at once
-  pub unbegun : IsSoloRun (run_of limits start epoch []) disk.moment [] disk disk out out NoMemory
-  unbegun =
-      safe_run limits start epoch s [] s.rests.begin.so_far [] disk disk out out NoMemory
-      (stands_first out (released_first out 0 (omega arith) (takes_none out))) (λ other. current_first) (λ other. omega arith) tt (λ e. absurd e)
-
--- it is at rest again once the first release is done
-module _ (limits : Limits) (start : Group) (k : KeptBlocks) (s : IsStart limits start k.epoch) (disk : DiskView) (out : SinkView) (only : OnlyReading disk)
-    (kept : NewestCheckpoint) (knows : Describes k kept) (first : IsNewestAtStart start kept) (keeps : ForSome disk.reading (λ r. HasNewest r kept))
-    (least : start.frame.out.from ≤ out.count) (most : out.count ≤ last_position start.frame.out) where
-  pub rests_first : (out' : SinkView) → ForSome disk.reading (λ r. DescribesGates k r) → ReleasesRest start.frame.out out out' → IsRunAtRest limits start k.epoch disk out start k 0 [] [] disk out'
-  rests_first out' gates r =
-      let n = length (rest_of start.frame.out out) in
-      let all : Takes (take n (rest_of start.frame.out out)) out out' = subst (λ (l : List ℕ). Takes l out out') (sym (take_all n (rest_of start.frame.out out) (omega arith))) r.taken in
-      record {
-        stands = s.rests.begin;
-        checkpointed = s.checkpointed;
-        position = omega (arith, s.position);
-        epochs = omega (arith, s.epoch);
-        within = omega arith;
-        safe = stands_first limits start k.epoch s disk out only kept knows.epoch first keeps least most out' (released_first limits start k.epoch s disk out only kept knows.epoch first keeps least most out' n (omega arith) all);
-        none_given_up = omega arith;
-        disk_faults = omega arith;
-        out_faults = r.faults;
-        told = λ b told. (b, told);
-        only = only;
-        gates = gates;
-        kept = kept;
-        knows = knows;
-        keeps = keeps;
-        kept_is = kept_first limits start k.epoch s disk out only kept knows.epoch first keeps least most kept knows.epoch first;
-        group_is = s.epochs.first [];
-        last = refl;
-        reached = subst (λ (m : ℕ). Reached (run_of limits start k.epoch []) out out' m) (rest_size limits start k.epoch s disk out only kept knows.epoch first keeps least most) (reached_first limits start k.epoch s disk out only kept knows.epoch first keeps least most out' n (omega arith) all);
-        out_at = omega (arith, r.taken.count, rest_size limits start k.epoch s disk out only kept knows.epoch first keeps least most);
-        covered = covered_first limits start k.epoch;
-      }

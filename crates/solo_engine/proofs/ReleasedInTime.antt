@@ -1,108 +1,64 @@
 -- What a barrier covers is out before a later one is fetched.
-use Rattle.std.proofs.Common.{◌≡◌, ℕ, ◌+◌, ◌<◌, ◌≤◌, ◌==◌, ◌||◌, Bool, true, false, if◌then◌else◌, List, [], ◌∷◌, ◌++◌, Option, Some, None, IsTrue, inl, inr, refl, sym, ap, ◌∙◌, arith}
-use Rattle.std.specs.List.{list_any}
+use Rattle.std.proofs.Common.{◌≡◌, ◌⊎◌, inl, inr, ℕ, ◌<◌, ◌≤◌, ◌==◌, Bool, true, false, if◌then◌else◌, List, [], ◌∷◌, ◌++◌, Option, Some, None, refl, ap, sym, ◌∙◌, arith}
+use Rattle.std.specs.List.{find}
 use Rattle.std.specs.Option.{option_map}
-use Rattle.std.proofs.lemmas.Bool.Decides.{leb_tells}
-use Rattle.std.proofs.lemmas.List.Folds.{list_any-append}
+use Rattle.std.proofs.lemmas.Bool.{eqb-true}
+use Rattle.group_defs.specs.Group.{Group}
+use Rattle.run_defs.specs.Progress.{Checkpoint, mark_of}
 use Rattle.run_defs.specs.declared.run.Limits.{Limits}
 use Rattle.run_defs.specs.declared.run.Mark.{Mark}
-use Rattle.run_defs.specs.declared.run.Mark.TheVariants.{Barrier, Fetch, Ack}
-use Rattle.group_defs.specs.Group.{Group}
-use Rattle.run_defs.specs.Trace.{after_mark, barrier_group, is_barrier_of, is_fetch_of, mark_of}
-use Rattle.run_defs.specs.AtRest.{EpochsHaveGroups, HasNoMarkOf}
 use Rattle.sls_core.specs.Safe.{IsReleasedInTime, RunSoFar, run_of}
 use Rattle.solo_engine.proofs.SafeSoFar.{longer}
 
-neither : (a b : Bool) → a ≡ false → b ≡ false → (a || b) ≡ false
-neither true b x y = absurd (cc)
-neither false b x y = y
-
--- ---- marks behind a trace
-
--- no barrier of an epoch up to this one, and no fetch later than the next
-pub record IsBehind (epoch : ℕ) (more : List Mark) : Type 0 where
-  pub barriers : (e : ℕ) → e ≤ epoch → list_any (is_barrier_of e) more ≡ false
-  pub fetches : (e : ℕ) → epoch + 1 < e → list_any (is_fetch_of e) more ≡ false
-
-pub behind_turns : (epoch : ℕ) (more : List Mark) → ((e : ℕ) → HasNoMarkOf e more) → IsBehind epoch more
-behind_turns epoch more none = record { barriers = λ e le. (none e).0; fetches = λ e later. (none e).1 }
-
-pub behind_ack : (epoch e : ℕ) → IsBehind epoch (Ack e ∷ [])
-behind_ack epoch e = record { barriers = λ e le. refl; fetches = λ e later. refl }
-
-pub behind_fetch : (epoch : ℕ) (more : List Mark) → ((e : ℕ) → HasNoMarkOf e more) → IsBehind epoch (more ++ Barrier (epoch + 1) ∷ Fetch (epoch + 1) ∷ [])
-behind_fetch epoch more none = record {
-  barriers = λ e le.
-      let other : (epoch + 1 == e) ≡ false = grind (arith, le) in
-      list_any-append (is_barrier_of e) more (Barrier (epoch + 1) ∷ Fetch (epoch + 1) ∷ []) ∙ neither (list_any (is_barrier_of e) more) _ (none e).0 (ap (λ (b : Bool). b || (false || false)) other);
-  fetches = λ e later.
-      let other : (epoch + 1 == e) ≡ false = grind (arith, later) in
-      list_any-append (is_fetch_of e) more (Barrier (epoch + 1) ∷ Fetch (epoch + 1) ∷ []) ∙ neither (list_any (is_fetch_of e) more) _ (none e).1 (ap (λ (b : Bool). false || (b || false)) other);
-}
-
--- ---- what is covered
-
--- All that the barriers up to this epoch cover lies before a position, and no fetch is later than the next epoch's.
-pub record Covered (run : RunSoFar) (epoch to : ℕ) : Type 0 where
+-- All that the barriers of a run at rest cover lies before a position.
+pub record Covered (run : RunSoFar) (to : ℕ) : Type 0 where
   pub begun : run.start.frame.out.mark ≤ to
-  pub marks : (e m : ℕ) → e ≤ epoch → mark_of run.limits.quantum run.start run.origin run.trace e ≡ Some m → m ≤ to
-  pub fetches : (e : ℕ) → epoch + 1 < e → list_any (is_fetch_of e) run.trace ≡ false
+  pub marks : (epoch mark : ℕ) → mark_of run.now epoch ≡ Some mark → mark ≤ to
 
-pub covered_more : (run : RunSoFar) (epochs : EpochsHaveGroups run.start run.origin run.limits) (more : List Mark) (epoch to : ℕ) → Covered run epoch to → IsBehind epoch more → Covered (longer run more) epoch to
-covered_more run epochs more epoch to c b = record {
-  begun = c.begun;
-  marks = λ e m le is. c.marks e m le (sym (ap (option_map (λ (h : Group). h.frame.out.mark)) (epochs.other run.trace more e (b.barriers e le))) ∙ is);
-  fetches = λ e later. list_any-append (is_fetch_of e) run.trace more ∙ neither (list_any (is_fetch_of e) run.trace) (list_any (is_fetch_of e) more) (c.fetches e later) (b.fetches e later);
-}
+abbrev mark_in : List Checkpoint → ℕ → Option ℕ
+mark_in cs epoch = option_map (λ h. h.frame.out.mark) (option_map (λ c. c.group) (find (λ c. c.epoch == epoch) cs))
 
-pub covered_up : (run : RunSoFar) (epoch to to' : ℕ) → Covered run epoch to → to ≤ to' → Covered run epoch to'
-covered_up run epoch to to' c le = record {
-  begun = omega (arith, c.begun, le);
-  marks = λ e m below is. omega (arith, c.marks e m below is, le);
-  fetches = c.fetches;
-}
-
--- the next epoch's barrier covers up to a later position
-pub covered_next : (run : RunSoFar) (epoch to mark : ℕ) → Covered run epoch to → mark_of run.limits.quantum run.start run.origin run.trace (epoch + 1) ≡ Some mark → to ≤ mark → Covered run (epoch + 1) mark
-covered_next run epoch to mark c is le = record {
-  begun = omega (arith, c.begun, le);
-  marks = λ e m below there. elim (leb_tells e epoch) [ inl old ↦ omega (arith, c.marks e m old.1 there, le) | inr new ↦ same e m (omega (arith, new.1, below)) there ];
-  fetches = λ e later. c.fetches e (omega (arith, later));
-}
+-- an epoch's mark behind one checkpoint more: the one before, or of that checkpoint
+mark_found : (cs : List Checkpoint) (c : Checkpoint) (epoch mark : ℕ) → mark_in (cs ++ c ∷ []) epoch ≡ Some mark → (mark_in cs epoch ≡ Some mark) ⊎ ((c.epoch ≡ epoch) × (c.group.frame.out.mark ≡ mark))
+mark_found [] c epoch mark is = by_test (c.epoch == epoch) refl is
   where
-    one : (a b : ℕ) → Some a ≡ Some b → a ≤ b
-    one a b e = let same : a ≡ b = cc in omega (arith, same)
-
-    same : (e m : ℕ) → e ≡ epoch + 1 → mark_of run.limits.quantum run.start run.origin run.trace e ≡ Some m → m ≤ mark
-    same e m at there = one m mark (sym there ∙ ap (λ (n : ℕ). mark_of run.limits.quantum run.start run.origin run.trace n) at ∙ is)
-
--- ... and nothing but the run's own checkpoint is covered at the start
-pub covered_first : (limits : Limits) (start : Group) (origin : ℕ) → Covered (run_of limits start origin []) origin start.frame.out.mark
-unfolding barrier_group
-covered_first limits start origin = record {
-  begun = omega arith;
-  marks = λ e m le is. here (e == origin) m is;
-  fetches = λ e later. refl;
-}
+    by_test : (t : Bool) → (c.epoch == epoch) ≡ t → option_map (λ h. h.frame.out.mark) (option_map (λ c. c.group) (if t then Some c else None)) ≡ Some mark → (None ≡ Some mark) ⊎ ((c.epoch ≡ epoch) × (c.group.frame.out.mark ≡ mark))
+    by_test true same is = inr (eqb-true c.epoch epoch same, cc)
+    by_test false same is = inl is
+mark_found (x ∷ cs) c epoch mark is = by_test (x.epoch == epoch) (mark_found cs c epoch mark) is
   where
-    here : (t : Bool) (m : ℕ) → option_map (λ (h : Group). h.frame.out.mark) (if t then Some start else None) ≡ Some m → m ≤ start.frame.out.mark
-    here true m is = let same : start.frame.out.mark ≡ m = cc in omega (arith, same)
-    here false m is = absurd (cc)
+    by_test : (t : Bool) → (mark_in (cs ++ c ∷ []) epoch ≡ Some mark → (mark_in cs epoch ≡ Some mark) ⊎ ((c.epoch ≡ epoch) × (c.group.frame.out.mark ≡ mark)))
+        → option_map (λ h. h.frame.out.mark) (option_map (λ c. c.group) (if t then Some x else find (λ c. c.epoch == epoch) (cs ++ c ∷ []))) ≡ Some mark
+        → (option_map (λ h. h.frame.out.mark) (option_map (λ c. c.group) (if t then Some x else find (λ c. c.epoch == epoch) cs)) ≡ Some mark) ⊎ ((c.epoch ≡ epoch) × (c.group.frame.out.mark ≡ mark))
+    by_test true rest is = inl is
+    by_test false rest is = rest is
 
--- ---- what was released in time
+module _ (run : RunSoFar) (to : ℕ) (c : Covered run to) where
+  -- where no checkpoint was added
+  pub in_time_on : (more : List Mark) → (longer run more).now.checkpoints ≡ run.now.checkpoints → IsReleasedInTime (longer run more) to
+  in_time_on more same = record { begun = inr c.begun; fetched = λ epoch mark below is. c.marks epoch mark (sym (ap (λ (cs : List Checkpoint). mark_in cs epoch) same) ∙ is) }
 
-pub released_in_time : (run : RunSoFar) (epoch to : ℕ) → Covered run epoch to → IsReleasedInTime run to
-released_in_time run epoch to c = record {
-  begun = inr c.begun;
-  fetched = λ e m any is. elim (leb_tells e epoch) [ inl old ↦ c.marks e m old.1 is | inr new ↦ absurd (never (list_any (is_fetch_of (e + 1)) run.trace) any (c.fetches (e + 1) (omega (arith, new.1)))) ];
-}
-  where
-    never : (b : Bool) → IsTrue b → b ≡ false → ⊥
-    never true x y = cc
-    never false x y = cc
+  module _ (more : List Mark) (one : Checkpoint) (adds : (longer run more).now.checkpoints ≡ run.now.checkpoints ++ one ∷ []) where
+    found : (epoch mark : ℕ) → mark_of (longer run more).now epoch ≡ Some mark → (mark_of run.now epoch ≡ Some mark) ⊎ ((one.epoch ≡ epoch) × (one.group.frame.out.mark ≡ mark))
+    found epoch mark is = mark_found run.now.checkpoints one epoch mark (sym (ap (λ (cs : List Checkpoint). mark_in cs epoch) adds) ∙ is)
+
+    -- one more is fetched, and covers nothing yet
+    pub in_time_fetched : (longer run more).now.fetched ≡ one.epoch → (to' : ℕ) → to ≤ to' → IsReleasedInTime (longer run more) to'
+    in_time_fetched last to' up = record {
+      begun = inr (omega (arith, c.begun, up));
+      fetched = λ epoch mark below is. elim (found epoch mark is) [ inl old ↦ omega (arith, c.marks epoch mark old, up) | inr new ↦ absurd (omega (arith, below, last, new.0)) ];
+    }
+
+    -- what it covers is out
+    pub covered_more : (to' : ℕ) → to ≤ to' → one.group.frame.out.mark ≤ to' → Covered (longer run more) to'
+    covered_more to' up le = record {
+      begun = omega (arith, c.begun, up);
+      marks = λ epoch mark is. elim (found epoch mark is) [ inl old ↦ omega (arith, c.marks epoch mark old, up) | inr new ↦ omega (arith, le, new.1) ];
+    }
+
+-- nothing but the run's own checkpoint is covered at the start
+pub covered_first : (limits : Limits) (start : Group) (origin : ℕ) → Covered (run_of limits start origin []) start.frame.out.mark
+covered_first limits start origin = record { begun = omega arith; marks = λ epoch mark is. elim (mark_found [] (record { epoch = origin; group = start; touched = [] }) epoch mark is) [ inl none ↦ absurd (cc) | inr own ↦ omega (arith, own.1) ] }
 
 pub in_time_at_start : (limits : Limits) (start : Group) (origin to : ℕ) → IsReleasedInTime (run_of limits start origin []) to
-in_time_at_start limits start origin to = record { begun = inl refl; fetched = λ e m any is. absurd (never any) }
-  where
-    never : IsTrue false → ⊥
-    never x = cc
+in_time_at_start limits start origin to = record { begun = inl refl; fetched = λ epoch mark below is. elim (mark_found [] (record { epoch = origin; group = start; touched = [] }) epoch mark is) [ inl none ↦ absurd (cc) | inr own ↦ absurd (omega (arith, below, own.0)) ] }

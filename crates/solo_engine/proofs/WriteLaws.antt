@@ -1,18 +1,25 @@
--- The write calls of commits, and what a run may make of them.
-use Rattle.std.proofs.Common.{◌≡◌, ℕ, zero, suc, ◌+◌, ◌≤◌, Bool, true, false, List, [], ◌∷◌, ◌++◌, length, Option, Some, None, refl, ap, arith}
+-- The write calls of commits, and what whole commits make of a disk.
+use Rattle.std.proofs.Common.{◌≡◌, inl, inr, ℕ, zero, suc, ◌+◌, ◌≤◌, Bool, true, false, List, [], ◌∷◌, ◌++◌, map, length, Option, Some, None, refl, sym, ap, ◌∙◌, subst, arith, append-nil, append_assoc}
 use Rattle.std.specs.List.{filter_map, sum_by}
+use Rattle.std.specs.Option.{option_map}
+use Rattle.std.proofs.lemmas.List.{map-append}
 use Rattle.std.proofs.lemmas.List.Elements.{filter_map-append}
-use Rattle.std.proofs.lemmas.List.Sums.{sum_by-append, sum_by-cons}
-use Rattle.run_defs.specs.declared.run.Mark.{Mark}
-use Rattle.run_defs.specs.declared.run.Mark.TheVariants.{Barrier, Fetch, Ack}
+use Rattle.std.proofs.lemmas.List.Sums.{fold-append, sum_by-append, sum_by-cons}
+use Rattle.dev_traits.specs.Commits.{Commit, nothing_written, untold}
+use Rattle.dev_traits.specs.Disk.{DiskView, OnlyReading}
 use Rattle.group_defs.specs.Group.{Group}
-use Rattle.run_defs.specs.Trace.{IsGroupOf, acked_epoch, group_of_epoch}
-use Rattle.commit_gate.specs.Whole.{UpTo, calls_more, closing, write_calls}
-use Rattle.commit_gate.specs.declared.whole.Block.{Block}
-use Rattle.sls_core.specs.Answers.{calls_of_epoch, fetched_epoch, writes_acknowledged, writes_allowed}
+use Rattle.run_defs.specs.Progress.{IsGroupOf, group_of_epoch}
+use Rattle.run_defs.specs.declared.run.AckMark.{AckMark}
+use Rattle.run_defs.specs.declared.run.Mark.{Mark}
+use Rattle.run_defs.specs.declared.run.Mark.TheVariants.{Barrier, Fetch}
+use Rattle.run_laws.specs.AtRest.{EpochsHaveGroups}
 use Rattle.ckpt_records.specs.Cost.{calls_for, cost_of}
+use Rattle.commit_gate.proofs.Phases.{calls_then}
+use Rattle.commit_gate.specs.Whole.{AddsCommit, Reads, UpTo, calls_more, closing, write_calls}
+use Rattle.commit_gate.specs.declared.whole.Block.{Block}
+use Rattle.sls_core.specs.Answers.{calls_of_epoch, fetched_epoch, writes_allowed}
+use Rattle.sls_core.specs.Committed.{AreCommitsOf, IsCommitOf, IsOnlyCommitted, TellsFirst, TellsMore, WholeCommit, calls_of, image_after, images_after, told_commit}
 use Rattle.sls_core.specs.Safe.{RunSoFar}
-use Rattle.run_defs.specs.AtRest.{EpochsHaveGroups}
 use Rattle.solo_engine.proofs.SafeSoFar.{longer}
 
 -- ---- the calls of one commit
@@ -33,7 +40,7 @@ committed_calls g close blocks before after size is = omega (arith, size, is, ca
 pub failed_calls : (g : Group) (close : Bool) (blocks : List Block) (before after : ℕ) → length blocks ≤ cost_of g → UpTo (write_calls close blocks) before after → after ≤ before + calls_for g
 failed_calls g close blocks before after size up = omega (arith, size, up.1, up.2, calls_within up.0 before, one_closing close)
 
--- ---- the calls of a trace
+-- ---- the calls that a trace allows
 
 abbrev calls_in : Option Group → ℕ
 calls_in o = elim o [ None ↦ 0 | Some g ↦ calls_for g ]
@@ -42,41 +49,106 @@ sums_rise : (f g : ℕ → ℕ) (es : List ℕ) → ((e : ℕ) → f e ≤ g e) 
 sums_rise f g [] rise = omega arith
 sums_rise f g (e ∷ es) rise = omega (arith, sum_by-cons f e es, sum_by-cons g e es, rise e, sums_rise f g es rise)
 
-calls_rise : (run : RunSoFar) (epochs : EpochsHaveGroups run.start run.origin run.limits) (more : List Mark) (epoch : ℕ) → calls_of_epoch run epoch ≤ calls_of_epoch (longer run more) epoch
-calls_rise run epochs more epoch = by_group (group_of_epoch run.limits.quantum run.start run.origin run.trace epoch) refl
-  where
-    by_group : (o : Option Group) → group_of_epoch run.limits.quantum run.start run.origin run.trace epoch ≡ o → calls_of_epoch run epoch ≤ calls_of_epoch (longer run more) epoch
-    by_group None is = omega (arith, ap calls_in is)
-    by_group (Some h) is = omega (arith, ap calls_in is, ap calls_in (epochs.later run.trace more epoch h is))
+module _ (run : RunSoFar) (epochs : EpochsHaveGroups run.start run.origin run.limits) where
+  calls_rise : (more : List Mark) (epoch : ℕ) → calls_of_epoch run epoch ≤ calls_of_epoch (longer run more) epoch
+  calls_rise more epoch = by_group (group_of_epoch run.now epoch) refl
+    where
+      by_group : (o : Option Group) → group_of_epoch run.now epoch ≡ o → calls_of_epoch run epoch ≤ calls_of_epoch (longer run more) epoch
+      by_group None is = omega (arith, ap calls_in is)
+      by_group (Some h) is = omega (arith, ap calls_in is, ap calls_in (epochs.later run.now more epoch h is))
 
--- the epochs of some marks, as Fetches or as Acks
-module _ (epoch_in : Mark → Option ℕ) (run : RunSoFar) (epochs : EpochsHaveGroups run.start run.origin run.limits) (more : List Mark) where
-  sums_more : sum_by (calls_of_epoch run) (filter_map epoch_in run.trace) + sum_by (calls_of_epoch (longer run more)) (filter_map epoch_in more) ≤ sum_by (calls_of_epoch (longer run more)) (filter_map epoch_in (run.trace ++ more))
-  sums_more =
+  sums_more : (more : List Mark) → writes_allowed run + sum_by (calls_of_epoch (longer run more)) (filter_map fetched_epoch more) ≤ writes_allowed (longer run more)
+  sums_more more =
       let calls = calls_of_epoch (longer run more) in
-      let old = filter_map epoch_in run.trace in
-      let new = filter_map epoch_in more in
-      omega (arith, sums_rise (calls_of_epoch run) calls old (calls_rise run epochs more), ap (sum_by calls) (filter_map-append epoch_in run.trace more), sum_by-append calls old new)
+      let old = filter_map fetched_epoch run.trace in
+      let new = filter_map fetched_epoch more in
+      omega (arith, sums_rise (calls_of_epoch run) calls old (calls_rise more), ap (sum_by calls) (filter_map-append fetched_epoch run.trace more), sum_by-append calls old new)
 
--- marks more allow no fewer
-pub allowed_longer : (run : RunSoFar) (epochs : EpochsHaveGroups run.start run.origin run.limits) (more : List Mark) → writes_allowed run ≤ writes_allowed (longer run more)
-allowed_longer run epochs more = omega (arith, sums_more fetched_epoch run epochs more)
+  -- marks more allow no fewer
+  pub allowed_longer : (more : List Mark) → writes_allowed run ≤ writes_allowed (longer run more)
+  allowed_longer more = omega (arith, sums_more more)
 
-pub acknowledged_longer : (run : RunSoFar) (epochs : EpochsHaveGroups run.start run.origin run.limits) (more : List Mark) → writes_acknowledged run ≤ writes_acknowledged (longer run more)
-acknowledged_longer run epochs more = omega (arith, sums_more acked_epoch run epochs more)
+  -- a barrier and its fetch allow those of its group
+  pub allowed_fetched : (epoch : ℕ) (h : Group) → IsGroupOf (longer run (Barrier epoch ∷ Fetch epoch ∷ [])).now epoch h → writes_allowed run + calls_for h ≤ writes_allowed (longer run (Barrier epoch ∷ Fetch epoch ∷ []))
+  allowed_fetched epoch h is =
+      let behind = Barrier epoch ∷ Fetch epoch ∷ [] in
+      omega (arith, sums_more behind, sum_by-cons (calls_of_epoch (longer run behind)) epoch [], ap calls_in is)
 
--- a barrier and its fetch allow those of its group
-pub allowed_fetched : (run : RunSoFar) (epochs : EpochsHaveGroups run.start run.origin run.limits) (more : List Mark) (epoch : ℕ) (h : Group) → IsGroupOf run.limits.quantum run.start run.origin (run.trace ++ (more ++ Barrier epoch ∷ Fetch epoch ∷ [])) epoch h
-    → writes_allowed run + calls_for h ≤ writes_allowed (longer run (more ++ Barrier epoch ∷ Fetch epoch ∷ []))
-allowed_fetched run epochs more epoch h is =
-    let behind = more ++ Barrier epoch ∷ Fetch epoch ∷ [] in
-    let calls = calls_of_epoch (longer run behind) in
-    let old = filter_map fetched_epoch more in
-    omega (arith, sums_more fetched_epoch run epochs behind, ap (sum_by calls) (filter_map-append fetched_epoch more (Barrier epoch ∷ Fetch epoch ∷ [])), sum_by-append calls old (epoch ∷ []), sum_by-cons calls epoch [], ap calls_in is)
+  -- ---- what whole commits make
 
--- an acknowledgement adds those of its group
-pub acknowledged_more : (run : RunSoFar) (epochs : EpochsHaveGroups run.start run.origin run.limits) (epoch : ℕ) (h : Group) → IsGroupOf run.limits.quantum run.start run.origin run.trace epoch h
-    → writes_acknowledged run + calls_for h ≤ writes_acknowledged (longer run (Ack epoch ∷ []))
-acknowledged_more run epochs epoch h is =
-    let calls = calls_of_epoch (longer run (Ack epoch ∷ [])) in
-    omega (arith, sums_more acked_epoch run epochs (Ack epoch ∷ []), sum_by-cons calls epoch [], ap calls_in (epochs.later run.trace (Ack epoch ∷ []) epoch h is))
+  commit_longer : (more : List Mark) (reading : Option (List ℕ)) (epoch : ℕ) (c : WholeCommit) → IsCommitOf run reading epoch c → IsCommitOf (longer run more) reading epoch c
+  commit_longer more reading epoch c is = record { group = is.group; group_is = epochs.later run.now more epoch is.group is.group_is; few = is.few; held = is.held }
+
+  commits_longer : (more : List Mark) (reading : Option (List ℕ)) (acks : List AckMark) (commits : List WholeCommit) → AreCommitsOf run reading acks commits → AreCommitsOf (longer run more) reading acks commits
+  commits_longer more reading [] [] are = tt
+  commits_longer more reading [] (c ∷ commits) are = absurd are
+  commits_longer more reading (a ∷ acks) [] are = absurd are
+  commits_longer more reading (a ∷ acks) (c ∷ commits) are = (commit_longer more reading a.epoch c are.0, commits_longer more (option_map (λ r. image_after r c) reading) acks commits are.1)
+
+  pub committed_longer : (more : List Mark) (acks : List AckMark) (before after : DiskView) → IsOnlyCommitted run acks before after → IsOnlyCommitted (longer run more) acks before after
+  committed_longer more acks before after o = record { commits = o.commits; each = commits_longer more before.reading acks o.commits o.each; writes = o.writes; reads = o.reads; only = o.only; told = o.told }
+
+map_none : (o : Option (List ℕ)) → o ≡ option_map (images_after []) o
+map_none None = refl
+map_none (Some r) = refl
+
+map_then : (f g h : List ℕ → List ℕ) → ((r : List ℕ) → g (f r) ≡ h r) → (o : Option (List ℕ)) → option_map g (option_map f o) ≡ option_map h o
+map_then f g h same None = refl
+map_then f g h same (Some r) = ap (λ (x : List ℕ). Some x) (same r)
+
+pub none_committed : (run : RunSoFar) (disk : DiskView) → OnlyReading disk → IsOnlyCommitted run [] disk disk
+unfolding calls_more
+none_committed run disk only = record {
+  commits = [];
+  each = tt;
+  writes = refl;
+  reads = map_none disk.reading;
+  only = only;
+  told = record { told = λ now. ([], [], refl, sym (append-nil disk.commits.ended), inr (now, refl)); untold = λ none. refl };
+}
+
+-- ---- one commit more
+
+module _ (run : RunSoFar) (a : AckMark) (c : WholeCommit) where
+  one_commit : (reading : Option (List ℕ)) (acks : List AckMark) (commits : List WholeCommit) → AreCommitsOf run reading acks commits → IsCommitOf run (option_map (images_after commits) reading) a.epoch c → AreCommitsOf run reading (acks ++ a ∷ []) (commits ++ c ∷ [])
+  one_commit reading [] [] are is = (subst (λ (o : Option (List ℕ)). IsCommitOf run o a.epoch c) (sym (map_none reading)) is, tt)
+  one_commit reading [] (d ∷ commits) are is = absurd are
+  one_commit reading (b ∷ acks) [] are is = absurd are
+  one_commit reading (b ∷ acks) (d ∷ commits) are is =
+      (are.0, one_commit (option_map (λ r. image_after r d) reading) acks commits are.1 (subst (λ (o : Option (List ℕ)). IsCommitOf run o a.epoch c) (sym (map_then (λ r. image_after r d) (images_after commits) (images_after (d ∷ commits)) (λ r. refl) reading)) is))
+
+  tells_one : (commits : List WholeCommit) (before mid after : DiskView) → TellsMore commits before mid → AddsCommit c.blocks c.body mid after → TellsMore (commits ++ c ∷ []) before after
+  tells_one commits before mid after t adds = record { told = λ now. by_now (t.told now); untold = λ none. adds.untold (ap (λ x. x.now) (t.untold none) ∙ none) ∙ t.untold none }
+    where
+      by_now : TellsFirst commits before mid → TellsFirst (commits ++ c ∷ []) before after
+      by_now (first, others, all, ended, inl none) =
+          let same = adds.untold none in
+          (first, others ++ c ∷ [], ap (λ (l : List WholeCommit). l ++ c ∷ []) all ∙ append_assoc first others (c ∷ []), ap (λ x. x.ended) same ∙ ended, inl (ap (λ x. x.now) same ∙ none))
+      by_now (first, others, all, ended, inr (now, none)) =
+          let whole : commits ≡ first = all ∙ ap (λ (l : List WholeCommit). first ++ l) none ∙ append-nil first in
+          let held : mid.commits.ended ≡ before.commits.ended ++ map told_commit commits = ended ∙ ap (λ (l : List WholeCommit). before.commits.ended ++ map told_commit l) (sym whole) in
+          elim (adds.told now) [
+            | inl one ↦ (
+              commits ++ c ∷ [],
+              [],
+              sym (append-nil (commits ++ c ∷ [])),
+              ap (λ x. x.ended) one ∙ ap (λ (l : List Commit). l ++ told_commit c ∷ []) held ∙ append_assoc before.commits.ended (map told_commit commits) (told_commit c ∷ [])
+                  ∙ ap (λ (l : List Commit). before.commits.ended ++ l) (sym (map-append told_commit commits (c ∷ []))),
+              inr (ap (λ x. x.now) one, refl),
+            )
+            | inr less ↦ (commits, c ∷ [], refl, ap (λ x. x.ended) less ∙ held, inl (ap (λ x. x.now) less))
+          ]
+
+  pub committed_more : (acks : List AckMark) (before mid after : DiskView) → IsOnlyCommitted run acks before mid → IsCommitOf run mid.reading a.epoch c → after.writes ≡ calls_more (write_calls c.closes c.blocks) mid.writes
+      → Reads (λ r. image_after r c) mid after → OnlyReading after → AddsCommit c.blocks c.body mid after → IsOnlyCommitted run (acks ++ a ∷ []) before after
+  committed_more acks before mid after o is writes reads only adds =
+      let calls = write_calls c.closes c.blocks in record {
+        commits = o.commits ++ c ∷ [];
+        each = one_commit before.reading acks o.commits o.each (subst (λ (x : Option (List ℕ)). IsCommitOf run x a.epoch c) o.reads is);
+        writes = writes ∙ ap (calls_more calls) o.writes ∙ calls_then (calls_of o.commits) calls before.writes
+            ∙ ap (λ (n : ℕ). calls_more n before.writes) (sym (sum_by-append (λ x. write_calls x.closes x.blocks) o.commits (c ∷ []) ∙ omega (arith, sum_by-cons (λ x. write_calls x.closes x.blocks) c [])));
+        reads = reads ∙ ap (option_map (λ r. image_after r c)) o.reads
+            ∙ map_then (images_after o.commits) (λ r. image_after r c) (images_after (o.commits ++ c ∷ [])) (λ r. sym (fold-append image_after r o.commits (c ∷ []))) before.reading;
+        only = only;
+        told = tells_one o.commits before mid after o.told adds;
+      }

@@ -1,72 +1,95 @@
 -- What the parts of an interval do: the turns up to a barrier, the barrier with its fetch, the plan, and the commit with the
 -- release.
-use Rattle.std.specs.Prelude.{◌≡◌, ◌⊎◌, ◌≤◌, ◌<◌, ◌+◌, ◌-◌, ◌*◌, ◌^◌, ℕ, ⊤, List, [], ◌∷◌, ◌++◌, length, drop}
-use Rattle.std.specs.List.{filter_map}
+use Rattle.std.specs.Prelude.{◌≡◌, ◌≤◌, ◌<◌, ◌+◌, ◌-◌, ◌*◌, ◌^◌, ℕ, ⊤, Bool, List, [], ◌∷◌, ◌++◌, drop}
+use Rattle.std.specs.List.{AllByRecursion}
 use Rattle.std.specs.Option.{ForSome}
 use Rattle.dev_traits.specs.Counts.{Rose}
 use Rattle.dev_traits.specs.Disk.{DiskView, OnlyReading}
 use Rattle.dev_traits.specs.Since.{LeavesOnly}
 use Rattle.dev_traits.specs.Outside.{SinkView, Takes, TakesPart}
 use Rattle.group_defs.specs.declared.frame.Out.{Out}
+use Rattle.group_defs.specs.Group.{Group}
+use Rattle.group_defs.specs.Output.{last_position}
+use Rattle.group_defs.specs.Standing.{Standing, group_barrier}
 use Rattle.run_defs.specs.declared.run.AckMark.{AckMark}
 use Rattle.run_defs.specs.declared.run.Limits.{Limits}
 use Rattle.run_defs.specs.declared.run.Mark.{Mark}
-use Rattle.run_defs.specs.declared.run.Mark.TheVariants.{Barrier, Fetch, Ack}
+use Rattle.run_defs.specs.declared.run.Mark.TheVariants.{Take, Turn, Ack}
 use Rattle.run_defs.specs.Ends.{IsDone, IsStuck}
-use Rattle.group_defs.specs.Group.{Group}
-use Rattle.run_defs.specs.Legal.{ready}
-use Rattle.group_defs.specs.Output.{last_position}
+use Rattle.run_defs.specs.Legal.{IsDue, Legal, ready}
+use Rattle.run_defs.specs.Progress.{Progress, progress_after}
 use Rattle.run_defs.specs.Solo.{IsSoloPrefix, IsSoloSoFar}
-use Rattle.run_defs.specs.Trace.{barrier, acked_epoch}
-use Rattle.ckpt_records.specs.Holds.{IsCheckpointed}
-use Rattle.commit_gate.specs.Whole.{Reads, finished}
-use Rattle.commit_gate.specs.declared.whole.Block.{Block}
+use Rattle.run_laws.specs.AtRest.{BarriersLetOut, EpochsHaveGroups, IsTraceAtRest, OutputHasParts, RestsFollow, with_fetched}
 use Rattle.ckpt_chain.specs.declared.slot.SlotBody.{SlotBody}
-use Rattle.run_defs.specs.AtRest.{BarriersLetOut, EpochsHaveGroups, HasNoMarkOf, IsDue, IsTraceAtRest, OutputHasParts, RestsFollow}
+use Rattle.ckpt_records.specs.Cost.{calls_for, cost_of}
+use Rattle.ckpt_records.specs.Holds.{IsCheckpointed}
 use Rattle.ckpt_records.specs.Newest.{NewestCheckpoint, nothing, checkpoint, HasNewest}
+use Rattle.commit_gate.specs.Whole.{AddsCommit, Reads, calls_more, finished, write_calls}
+use Rattle.commit_gate.specs.declared.whole.Block.{Block}
 use Rattle.page_flusher.specs.CommitPlan.{HasNewestOrNext, IsPlan}
 use Rattle.page_flusher.specs.KeptBlocks.{IsKeptAfter, Describes}
-use Rattle.ckpt_records.specs.Cost.{calls_for, cost_of}
 use Rattle.page_flusher.specs.Plans.{IsFreeCount}
-use Rattle.solo_engine.specs.declared.interval.PlannedCommit.{PlannedCommit}
 use Rattle.page_flusher.specs.declared.kept.KeptBlocks.{KeptBlocks}
 use Rattle.sls_core.specs.declared.run.RunAnswer.{RunAnswer}
 use Rattle.sls_core.specs.declared.run.RunAnswer.TheVariants.{Done, Stuck, Spent, DiskFault, SinkFault, DiskFull, NoMemory}
+use Rattle.solo_engine.specs.declared.interval.PlannedCommit.{PlannedCommit}
 
--- marks more, none of which is of a barrier
-pub record IsLonger (trace trace' : List Mark) : Type 0 where
-  pub more : List Mark
-  pub trace_is : trace' ≡ trace ++ more
-  pub none : (epoch : ℕ) → HasNoMarkOf epoch more
-  pub unacked : filter_map acked_epoch more ≡ []
+-- only Takes and Turns
+abbrev pub IsOfTurn : Mark → Type 0
+IsOfTurn (Take worker pid) = ⊤
+IsOfTurn (Turn worker pid n) = ⊤
+IsOfTurn m = ⊥
+
+-- The engine has a run's group, made so many turns in all, and so many since the last barrier.
+pub record HasProgress (g : Group) (made since : ℕ) (r : Progress) : Type 0 where
+  pub group : r.state.group ≡ g
+  pub made_is : r.turns ≡ made
+  pub since_is : r.since ≡ since
+
+-- One process of the group is ready, or none, whatever stands beside it.
+abbrev pub IsOneReady : Group → ℕ → Type 0
+IsOneReady g pid = (standing : Standing) → ready (record { group = g; standing = standing }) ≡ pid ∷ []
+
+abbrev pub IsNoneReady : Group → Type 0
+IsNoneReady g = (standing : Standing) → ready (record { group = g; standing = standing }) ≡ []
 
 -- Some turns were made: the trace is the beginning of a run on one thread.
 pub record StopsTurning (limits : Limits) (trace trace' : List Mark) (g : Group) (made : ℕ) : Type 0 where
-  pub longer : IsLonger trace trace'
-  pub so_far : (start : Group) (origin epoch : ℕ) → IsTraceAtRest start origin limits trace g made 0 epoch → IsSoloSoFar start origin limits trace'
+  pub more : List Mark
+  pub trace_is : trace' ≡ trace ++ more
+  pub turns : AllByRecursion IsOfTurn more
+  pub so_far : (start : Group) (origin : ℕ) (r : Progress) → IsTraceAtRest start origin limits trace r → HasProgress g made 0 r → IsSoloSoFar start origin limits trace'
+
+-- a run at rest goes on to a rest by these marks
+abbrev pub GoesOn : Limits → List Mark → List Mark → List Mark → (Progress → Type 0) → (Progress → Type 0) → Type 0
+GoesOn limits trace more trace' Has Has' = (start : Group) (origin : ℕ) (r : Progress) → IsTraceAtRest start origin limits trace r → Has r
+    → IsTraceAtRest start origin limits trace' (progress_after limits.quantum r more) × Has' (progress_after limits.quantum r more)
 
 -- So many turns were made since the barrier.
-pub record HasTurned (limits : Limits) (trace trace' : List Mark) (g g' : Group) (made made' since : ℕ) : Type 0 where
-  pub longer : IsLonger trace trace'
-  pub made_is : made' ≡ made + since
-  pub within : made' ≤ limits.turns
-  pub stands : (start : Group) (origin epoch : ℕ) → IsTraceAtRest start origin limits trace g made 0 epoch → IsTraceAtRest start origin limits trace' g' made' since epoch
+pub record HasTurned (limits : Limits) (trace trace' : List Mark) (g g' : Group) (made since : ℕ) : Type 0 where
+  pub more : List Mark
+  pub trace_is : trace' ≡ trace ++ more
+  pub turns : AllByRecursion IsOfTurn more
+  pub within : made + since ≤ limits.turns
+  pub goes_on : GoesOn limits trace more trace' (HasProgress g made 0) (HasProgress g' (made + since) since)
   pub grown : last_position g'.frame.out ≤ last_position g.frame.out + 1048576 * since
   pub mark_is : g'.frame.out.mark ≡ g.frame.out.mark
 
 -- Turns up to the barrier, which is due.
 pub record ComesToBarrier (limits : Limits) (trace trace' : List Mark) (g g' : Group) (made made' : ℕ) : Type 0 where
   pub since : ℕ
-  pub turned : HasTurned limits trace trace' g g' made made' since
-  pub due : IsDue limits g' made' since
+  pub some : 0 < since
+  pub made_is : made' ≡ made + since
+  pub turned : HasTurned limits trace trace' g g' made since
+  pub due : (r : Progress) → HasProgress g' (made + since) since r → IsDue limits r
 
 -- The barrier after this epoch, and its fetch.
 pub record IsFetched (limits : Limits) (epoch : ℕ) (trace trace' : List Mark) (g g' : Group) (made made' : ℕ) : Type 0 where
   pub marks : List Mark
   pub before : Group
   pub comes : ComesToBarrier limits trace marks g before made made'
-  pub trace_is : trace' ≡ (marks ++ Barrier (epoch + 1) ∷ []) ++ Fetch (epoch + 1) ∷ []
-  pub group_is : g' ≡ barrier before
+  pub trace_is : trace' ≡ with_fetched marks (epoch + 1)
+  pub group_is : g' ≡ group_barrier before
   pub checkpointed : IsCheckpointed g'
   pub from_is : g'.frame.out.from ≡ g.frame.out.mark
 
@@ -103,23 +126,25 @@ pub record IsUncommitted (k : KeptBlocks) (g : Group) (disk disk' : DiskView) : 
   pub leaves : LeavesNewestOrNext k g disk disk'
   pub rose : Rose disk.faults disk'.faults
 
--- It was acknowledged: the plan is the disk's reading, and nothing else could be left.
+-- It was acknowledged: the plan is the disk's reading, and nothing else could be left. It closed the old gate first, or not.
 pub record IsCommitted (k : KeptBlocks) (g : Group) (planned : List Block) (body : SlotBody) (disk disk' : DiskView) (trace trace' : List Mark) (acks acks' : List AckMark) : Type 0 where
   pub blocks : disk'.blocks ≡ disk.blocks
-  pub writes : disk'.writes ≤ disk.writes + calls_for g
+  pub closes : Bool
+  pub writes : disk'.writes ≡ calls_more (write_calls closes planned) disk.writes
   pub later : disk.moment ≤ disk'.moment
   pub faults : disk.faults ≤ disk'.faults
   pub leaves : LeavesNewestOrNext k g disk disk'
   pub only : OnlyReading disk'
   pub reads : Reads (finished k.target planned body) disk disk'
+  pub commits : AddsCommit planned body disk disk'
   pub trace_is : trace' ≡ trace ++ Ack (k.epoch + 1) ∷ []
   pub acks_is : acks' ≡ acks ++ record { epoch = k.epoch + 1; at = disk'.moment } ∷ []
 
 -- how a run ends whose group has no turn left
 abbrev pub EndsIn : Group → RunAnswer → Type 0
 EndsIn g Done = IsDone g
-EndsIn g Stuck = IsStuck g
-EndsIn g Spent = (IsDone g → ⊥) × (IsStuck g → ⊥) × (ready g ≡ [] → ⊥)
+EndsIn g Stuck = (standing : Standing) → IsStuck (record { group = g; standing = standing })
+EndsIn g Spent = (IsDone g → ⊥) × ((standing : Standing) → (IsStuck (record { group = g; standing = standing }) → ⊥) × (ready (record { group = g; standing = standing }) ≡ [] → ⊥))
 EndsIn g DiskFault = ⊥
 EndsIn g SinkFault = ⊥
 EndsIn g (DiskFull need free) = ⊥
@@ -155,4 +180,5 @@ pub record IsStart (limits : Limits) (start : Group) (origin : ℕ) : Type 0 whe
   pub epochs : EpochsHaveGroups start origin limits
   pub parts : OutputHasParts start limits
   pub lets_out : BarriersLetOut start origin limits
+  pub legal : (marks : List Mark) → IsSoloSoFar start origin limits marks → Legal start origin limits marks
   pub prefix : (marks : List Mark) → IsSoloSoFar start origin limits marks → IsSoloPrefix start origin limits marks

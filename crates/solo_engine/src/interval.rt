@@ -1,7 +1,6 @@
 //! The turns up to a barrier, the barrier, and the plan of its commit.
-ghost use Rattle.std.specs.Prelude.{◌≡◌, ◌≤◌, ◌<◌, ◌+◌, ◌*◌, ◌^◌, [], ◌∷◌, length, IfOk, IfErr, OnOk, OnErr};
+ghost use Rattle.std.specs.Prelude.{◌≡◌, ◌≤◌, ◌<◌, ◌+◌, ◌*◌, ◌^◌, length, IfOk, IfErr, OnOk, OnErr};
 ghost use Rattle.std.specs.Vec.{vec_capacity, vec_len};
-ghost use Rattle.run_defs.specs.Legal.{ready as ready_in};
 ghost use Rattle.group_defs.specs.Output.{last_position};
 ghost use Rattle.ckpt_records.specs.Holds.{IsCheckpointed};
 ghost use Rattle.std.specs.List.{AllByRecursion};
@@ -9,7 +8,7 @@ ghost use Rattle.group_defs.specs.Valid.{GroupIsValid};
 ghost use Rattle.group_kernel.specs.Engine.{group_in, IsRunnable};
 ghost use Rattle.ckpt_records.specs.Pages.{ArePagesOf};
 ghost use Rattle.page_flusher.specs.Plans.{IsPlanRefused};
-ghost use Rattle.solo_engine.specs.Interval.{ComesToBarrier, IsFetched, IsPlanned, IsUnplanned, StopsTurning};
+ghost use Rattle.solo_engine.specs.Interval.{ComesToBarrier, IsFetched, IsOneReady, IsPlanned, IsUnplanned, StopsTurning};
 
 use crate::log::Log;
 use ckpt_records::Page;
@@ -18,8 +17,8 @@ use group_kernel::laws::output_is_the_groups;
 use group_kernel::{EngineGroup, frame_of, is_ready, mark_output, pages_of, turn};
 use lists::NoMemory;
 use page_flusher::{KeptBlocks, Plan, PlanRefused, plan_commit};
-use run_defs::laws::one_trace_on_one_thread;
 use run_defs::{Limits, Mark};
+use run_laws::laws::one_trace_on_one_thread;
 use sls_core::RunAnswer;
 use std::alloc::Global;
 
@@ -31,7 +30,7 @@ fn turns_to_barrier(
     trace: &mut Vec<Mark>,
 ) -> Result<u32, NoMemory>
     requires runnable { IsRunnable (group_in g.old) }
-    requires ready { ready_in (group_in g.old) ≡ g.old.fixed.pid ∷ [] }
+    requires ready { IsOneReady (group_in g.old) g.old.fixed.pid }
     requires made { made < limits.turns }
     requires every { (1 ≤ limits.every) × (limits.every ≤ 10000) }
     requires room { last_position g.old.out ≤ 2 ^ 62 + 1048576 * made }
@@ -72,7 +71,7 @@ pub fn turn_to_fetch(
     log: &mut Log,
 ) -> Result<(), NoMemory>
     requires checkpointed { IsCheckpointed (group_in engine.old.group) }
-    requires ready { ready_in (group_in engine.old.group) ≡ engine.old.group.fixed.pid ∷ [] }
+    requires ready { IsOneReady (group_in engine.old.group) engine.old.group.fixed.pid }
     requires made { engine.old.made < limits.turns }
     requires every { (1 ≤ limits.every) × (limits.every ≤ 10000) }
     requires room { last_position engine.old.group.out ≤ 2 ^ 62 + 1048576 * engine.old.made }

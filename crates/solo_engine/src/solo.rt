@@ -1,15 +1,14 @@
 //! A run on one thread.
-ghost use Rattle.std.specs.Prelude.{◌≡◌, ◌⊎◌, ◌≤◌, ◌<◌, ◌^◌, ℕ, false, [], ◌∷◌, IfOk, OnOk, OnErr, IsTrue};
+ghost use Rattle.std.specs.Prelude.{◌≡◌, ◌⊎◌, ◌≤◌, ◌<◌, ◌^◌, ℕ, false, [], IfOk, OnOk, OnErr, IsTrue};
 ghost use Rattle.std.specs.Option.{ForSome};
 ghost use Rattle.dev_traits.specs.Disk.{OnlyReading};
-ghost use Rattle.run_defs.specs.Legal.{ready as ready_in};
 ghost use Rattle.group_defs.specs.Group.{Group};
 ghost use Rattle.group_defs.specs.Output.{last_position};
 ghost use Rattle.ckpt_records.specs.Holds.{IsCheckpointed};
 ghost use Rattle.ckpt_records.specs.Parts.{group_of, HasLayers};
 ghost use Rattle.sls_core.specs.Answers.{IsSoloRun};
 ghost use Rattle.group_kernel.specs.Engine.{group_in};
-ghost use Rattle.solo_engine.specs.Interval.{EndsIn, IsNewestAtStart, IsStart, ReleasesPart, ReleasesRest};
+ghost use Rattle.solo_engine.specs.Interval.{EndsIn, IsNewestAtStart, IsNoneReady, IsOneReady, IsStart, ReleasesPart, ReleasesRest};
 ghost use Rattle.ckpt_records.specs.Newest.{HasNewest, NewestCheckpoint};
 ghost use Rattle.page_flusher.specs.KeptBlocks.{DescribesOrigin, Describes, DescribesGates};
 ghost use Rattle.ckpt_records.specs.Origin.{HasSize, IsOrigin, IsOriginOf, IsUnworn, IsWithin};
@@ -28,17 +27,17 @@ use group_kernel::{EngineGroup, group_from, is_ready};
 use lists::{NoMemory, Seq};
 use page_flusher::KeptBlocks;
 use run_defs::Limits;
-use run_defs::laws::{marks_follow_marks, one_trace_on_one_thread, output_only_grows};
+use run_laws::laws::{marks_follow_marks, one_trace_on_one_thread, output_only_grows};
 use sls_core::{Run, RunAnswer};
 use std::alloc::Global;
 
 /// Whether no turn is left: no process runs that doesn't wait, or all turns are made.
 fn is_over(engine: &Engine, limits: Limits) -> bool
     requires { IsCheckpointed (group_in engine.now.group) }
-    ensures over { IsTrue result → (ready_in (group_in engine.now.group) ≡ [])
+    ensures over { IsTrue result → IsNoneReady (group_in engine.now.group)
         ⊎ (limits.turns ≤ engine.now.made) }
-    ensures ready { result ≡ false → ready_in (group_in engine.now.group)
-        ≡ engine.now.group.fixed.pid ∷ [] }
+    ensures ready { result ≡ false → IsOneReady (group_in engine.now.group)
+        engine.now.group.fixed.pid }
     ensures made { result ≡ false → engine.now.made < limits.turns }
 {
     engine.made >= limits.turns || !is_ready(&engine.group)
@@ -83,7 +82,7 @@ fn release_rest<O: Sink>(out: &mut O, group: &EngineGroup) -> Result<(), Failed>
 }
 
 // What is known of each run with such limits, for contracts alone.
-fn run_laws(_limits: Limits)
+fn start_laws(_limits: Limits)
     requires { LimitsFit _limits }
     ensures { (start : Group) (origin : ℕ) → IsCheckpointed start → origin ≤ 2 ^ 62
         → last_position start.frame.out ≤ 2 ^ 62 → IsStart _limits start origin }
@@ -120,7 +119,7 @@ fn run_to_end<D: Disk, O: Sink>(
         log.new.trace.items) (D.view disk).moment log.new.acks.items (D.view disk) (D.view result.0)
         (O.view out.old) (O.view out.new) result.1 }
 {
-    run_laws(limits);
+    start_laws(limits);
     let mut engine = engine;
     let mut disk = disk;
     if release_rest(out, &engine.group).is_err() {
@@ -212,7 +211,7 @@ pub fn run_solo<D: Disk, O: Sink>(
         (D.view disk).moment result.acks (D.view disk) (D.view result.disk) (O.view out)
         (O.view result.out) result.answer }
 {
-    run_laws(limits);
+    start_laws(limits);
     let mut out = out;
     let mut log = Log::new(alloc);
     let engine = match engine_of(alloc, origin) {

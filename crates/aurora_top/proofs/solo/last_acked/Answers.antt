@@ -1,6 +1,6 @@
 use Rattle.std.proofs.Common.{◌≡◌, ℕ, ◌-◌, ◌≤◌, List, [], ◌∷◌, suc, length, get_or, refl, ap, ◌∙◌, arith}
 use Rattle.run_defs.specs.declared.run.AckMark.{AckMark}
-use Rattle.sls_core.specs.Safe.{last_epoch}
+use Rattle.aurora_top.specs.Ending.{last_epoch}
 use Rattle.aurora_top.proofs.solo.last_acked.Goals as goal
 
 last_is : (d : AckMark) (epoch : ℕ) (acks : List AckMark) → 1 ≤ length acks → (get_or acks (length acks - 1) d).epoch ≡ last_epoch epoch acks

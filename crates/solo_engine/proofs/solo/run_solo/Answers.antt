@@ -15,7 +15,7 @@ returns-in-Err g c =
     let o = c.args.origin in
     let disk = g.D.Disk.view c.args.disk in
     let out = g.O.Sink.view c.args.out in
-    let s = c.run_laws.ensures (group_of o.parts) o.epoch (origin_checkpointed disk.blocks o c.requires.origin) c.requires.unworn.epoch_is c.requires.unworn.output in
+    let s = c.start_laws.ensures (group_of o.parts) o.epoch (origin_checkpointed disk.blocks o c.requires.origin) c.requires.unworn.epoch_is c.requires.unworn.numbers.position in
     let none = ends_unbegun c.args.limits disk.blocks o disk out s c.requires.origin c.requires.held c.requires.count c.requires.only in
     let logged = subst (λ (t : List Mark). IsSoloRun (run_of c.args.limits (group_of o.parts) o.epoch t) disk.moment c.new-log.result.acks.items disk disk out out NoMemory) (sym c.new-log.ensures.trace)
     (subst (λ (a : List AckMark). IsSoloRun (run_of c.args.limits (group_of o.parts) o.epoch []) disk.moment a disk disk out out NoMemory) (sym c.new-log.ensures.acks) none) in
