@@ -1,0 +1,3 @@
+mod face_tables;
+mod faces;
+mod steps;

@@ -1,0 +1,9 @@
+pub mod Tops
+pub mod Ready
+pub mod Flat
+pub mod Faces
+pub mod Writes
+pub mod Shown
+pub mod Removed
+pub mod Joins
+pub mod Lent

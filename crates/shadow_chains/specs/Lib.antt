@@ -1,0 +1,5 @@
+pub mod Chain
+pub mod Own
+pub mod Faces
+pub mod Entries
+pub mod Lends
