@@ -149,7 +149,7 @@ module _ (run : RunSoFar) (before opened disk : DiskView) (out out' : SinkView) 
         ((ran.safe.stands.safe r (told r is)).entered t left (earlier t le) since);
   }
 
-  unfetched : run.now.fetched ≡ run.origin → IsUnwritten before disk
+  unfetched : run.now.fetched ≡ run.origin_epoch → IsUnwritten before disk
   unfetched none =
       let still = ran.safe.stands.unfetched none in
       record {

@@ -27,7 +27,7 @@ pub record IsSpent (limits : Limits) (r : Progress) : Type 0 where
 -- no lease is out, each Barrier has its Ack, and no Turn follows the last Barrier
 pub record IsSettled (r : Progress) : Type 0 where
   pub rests : IsAtRest r
-  pub no_turn : r.since ≡ 0
+  pub no_turn : r.turns_since ≡ 0
 
 -- the run is settled, and its state is at an end
 abbrev pub HasEnded : Limits → Progress → Type 0

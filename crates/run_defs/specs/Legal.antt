@@ -29,8 +29,8 @@ pub record TakeAllowed (limits : Limits) (r : Progress) (worker pid : ℕ) : Typ
   pub worker_is : worker < max 1 limits.workers
   pub idle : IsTrue (is_idle r.leases worker)
   pub next : next_pid r.taken (filter (is_unleased r.leases) (ready r.state)) ≡ Some pid
-  pub since : r.since + length r.leases < limits.every
-  pub all : r.turns + length r.leases < limits.turns
+  pub interval : r.turns_since + length r.leases < limits.every
+  pub turns : r.turns + length r.leases < limits.turns
 
 -- a Turn that did something stands since the Take of this lease
 abbrev pub has_moved : List Lease → ℕ → ℕ → Bool
@@ -47,14 +47,14 @@ pub record IsAtRest (r : Progress) : Type 0 where
   pub acked : r.state.standing.acked ≡ r.state.standing.last
 
 -- a Turn stands since the last Barrier, and the interval is full, all turns are made, or no process is ready
-pub record IsDue (limits : Limits) (r : Progress) : Type 0 where
-  pub turn : 0 < r.since
-  pub cause : (r.since ≡ limits.every) ⊎ ((r.turns ≡ limits.turns) ⊎ (ready r.state ≡ []))
+pub record HasBarrierCause (limits : Limits) (r : Progress) : Type 0 where
+  pub turn : 0 < r.turns_since
+  pub cause : (r.turns_since ≡ limits.every) ⊎ ((r.turns ≡ limits.turns) ⊎ (ready r.state ≡ []))
 
 pub record BarrierAllowed (limits : Limits) (r : Progress) (epoch : ℕ) : Type 0 where
   pub rises : epoch ≡ r.state.standing.last + 1
   pub rests : IsAtRest r
-  pub due : IsDue limits r
+  pub cause : HasBarrierCause limits r
 
 -- made, and not fetched yet
 pub record FetchAllowed (r : Progress) (epoch : ℕ) : Type 0 where
@@ -75,4 +75,4 @@ Allowed limits r (Ack epoch) = AckAllowed r epoch
 
 -- each mark is allowed after those before it, in a run from this group and epoch
 abbrev pub Legal : Group → ℕ → Limits → List Mark → Type 0
-Legal start origin limits marks = EachMark (Allowed limits) limits.quantum (progress_at origin start) marks
+Legal start origin_epoch limits marks = EachMark (Allowed limits) limits.quantum (progress_at origin_epoch start) marks

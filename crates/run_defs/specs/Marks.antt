@@ -13,10 +13,6 @@ abbrev pub is_barrier : Mark → Bool
 is_barrier (Barrier epoch) = true
 is_barrier m = false
 
-abbrev pub is_fetch : Mark → Bool
-is_fetch (Fetch epoch) = true
-is_fetch m = false
-
 abbrev pub is_take_of : ℕ → ℕ → Mark → Bool
 is_take_of w p (Take worker pid) = (worker == w) && (pid == p)
 is_take_of w p m = false

@@ -33,7 +33,7 @@ pub record Progress : Type 0 where
   pub taken : ℕ
   -- the Turns in all, and those since the last Barrier
   pub turns : ℕ
-  pub since : ℕ
+  pub turns_since : ℕ
   -- the bytes at the positions from the first group's `from` on
   pub output : List ℕ
   -- the pages that the interval touched so far
@@ -49,7 +49,7 @@ progress_at epoch g = record {
   leases = [];
   taken = 0;
   turns = 0;
-  since = 0;
+  turns_since = 0;
   output = g.frame.out.bytes;
   touched = touched_at_start epoch g;
   checkpoints = record { epoch = epoch; group = g; touched = [] } ∷ [];
@@ -71,7 +71,7 @@ after_turn quantum r worker pid n = record r {
   state = turned quantum r.state pid n;
   leases = leases_after_turn worker pid (does_something r.state pid n) r.leases;
   turns = r.turns + 1;
-  since = r.since + 1;
+  turns_since = r.turns_since + 1;
   output = r.output ++ appended r.state.group (turned quantum r.state pid n).group;
   touched = touched_with_turn quantum r.state pid n r.touched;
 }
@@ -81,7 +81,7 @@ abbrev pub checkpoint : Progress → ℕ → Checkpoint
 checkpoint r epoch = record { epoch = epoch; group = (barrier r.state epoch).group; touched = filter (is_among r.touched) (all_pages r.state.group.frame) }
 
 abbrev pub after_barrier : Progress → ℕ → Progress
-after_barrier r epoch = record r { state = barrier r.state epoch; since = 0; touched = []; checkpoints = r.checkpoints ++ checkpoint r epoch ∷ [] }
+after_barrier r epoch = record r { state = barrier r.state epoch; turns_since = 0; touched = []; checkpoints = r.checkpoints ++ checkpoint r epoch ∷ [] }
 
 abbrev pub after_mark : ℕ → Progress → Mark → Progress
 after_mark quantum r (Take worker pid) = record r { leases = r.leases ++ record { worker = worker; pid = pid; moved = false } ∷ []; taken = pid }

@@ -10,14 +10,14 @@ use Rattle.run_defs.specs.declared.run.Mark.TheVariants.{Take, Turn, Barrier, Fe
 
 -- Worker 0 takes a process where no lease is out, each Barrier has its Ack, no Barrier is allowed, and the run hasn't ended.
 -- So each Take is followed by its Turn, and each Barrier by its Fetch and its Ack: no other mark is allowed there.
-pub record TakeInOrder (limits : Limits) (r : Progress) (worker : ℕ) : Type 0 where
+pub record TakeInSoloOrder (limits : Limits) (r : Progress) (worker : ℕ) : Type 0 where
   pub worker_is : worker ≡ 0
   pub rests : IsAtRest r
   pub no_barrier : (epoch : ℕ) → BarrierAllowed limits r epoch → ⊥
   pub goes_on : HasEnded limits r → ⊥
 
 abbrev pub IsInSoloOrder : Limits → Progress → Mark → Type 0
-IsInSoloOrder limits r (Take worker pid) = TakeInOrder limits r worker
+IsInSoloOrder limits r (Take worker pid) = TakeInSoloOrder limits r worker
 IsInSoloOrder limits r (Turn worker pid n) = Unit {0}
 IsInSoloOrder limits r (Barrier epoch) = Unit {0}
 IsInSoloOrder limits r (Fetch epoch) = Unit {0}
@@ -28,13 +28,13 @@ IsSoloMark limits r m = Allowed limits r m × IsInSoloOrder limits r m
 
 -- what a run on one thread has logged so far
 abbrev pub IsSoloSoFar : Group → ℕ → Limits → List Mark → Type 0
-IsSoloSoFar start origin limits marks = EachMark (IsSoloMark limits) limits.quantum (progress_at origin start) marks
+IsSoloSoFar start origin_epoch limits marks = EachMark (IsSoloMark limits) limits.quantum (progress_at origin_epoch start) marks
 
 -- all of it, which ends at the first settled end
-pub record IsSoloTrace (start : Group) (origin : ℕ) (limits : Limits) (marks : List Mark) : Type 0 where
-  pub so_far : IsSoloSoFar start origin limits marks
-  pub ended : HasEnded limits (progress_after limits.quantum (progress_at origin start) marks)
+pub record IsSoloTrace (start : Group) (origin_epoch : ℕ) (limits : Limits) (marks : List Mark) : Type 0 where
+  pub so_far : IsSoloSoFar start origin_epoch limits marks
+  pub ended : HasEnded limits (progress_after limits.quantum (progress_at origin_epoch start) marks)
 
 -- the beginning of such a trace
 abbrev pub IsSoloPrefix : Group → ℕ → Limits → List Mark → Type 0
-IsSoloPrefix start origin limits marks = (more : List Mark) × IsSoloTrace start origin limits (marks ++ more)
+IsSoloPrefix start origin_epoch limits marks = (more : List Mark) × IsSoloTrace start origin_epoch limits (marks ++ more)

@@ -21,4 +21,4 @@ touched_with_turn quantum s pid n so_far = touched_with_steps s pid (steps_in qu
 -- On a new disk, where the run's own epoch is 0, each page that isn't all zero at the start counts as stored to:
 -- so at the first barrier each page that isn't all zero is touched.
 abbrev pub touched_at_start : ℕ → Group → List (ℕ × ℕ)
-touched_at_start origin g = if origin == 0 then nonzero_pages g else []
+touched_at_start origin_epoch g = if origin_epoch == 0 then nonzero_pages g else []

@@ -37,14 +37,14 @@ turns_from quantum r (m ∷ ms) = let sum = sum_by-cons one_turn m ms in let one
 abbrev since_after : List Mark → Mark → List Mark
 since_after so_far m = if is_barrier m then [] else so_far ++ m ∷ []
 
-since_one : (quantum : ℕ) (r : Progress) (so_far : List Mark) (m : Mark) → r.since ≡ turns_in so_far → (after_mark quantum r m).since ≡ turns_in (since_after so_far m)
+since_one : (quantum : ℕ) (r : Progress) (so_far : List Mark) (m : Mark) → r.turns_since ≡ turns_in so_far → (after_mark quantum r m).turns_since ≡ turns_in (since_after so_far m)
 since_one quantum r so_far (Take worker pid) is = omega (arith, is, sum_by-append one_turn so_far (Take worker pid ∷ []))
 since_one quantum r so_far (Turn worker pid n) is = omega (arith, is, sum_by-append one_turn so_far (Turn worker pid n ∷ []))
 since_one quantum r so_far (Barrier epoch) is = refl
 since_one quantum r so_far (Fetch epoch) is = omega (arith, is, sum_by-append one_turn so_far (Fetch epoch ∷ []))
 since_one quantum r so_far (Ack epoch) is = omega (arith, is, sum_by-append one_turn so_far (Ack epoch ∷ []))
 
-since_from : (quantum : ℕ) (r : Progress) (so_far marks : List Mark) → r.since ≡ turns_in so_far → (progress_after quantum r marks).since ≡ turns_in (fold since_after so_far marks)
+since_from : (quantum : ℕ) (r : Progress) (so_far marks : List Mark) → r.turns_since ≡ turns_in so_far → (progress_after quantum r marks).turns_since ≡ turns_in (fold since_after so_far marks)
 since_from quantum r so_far [] is = is
 since_from quantum r so_far (m ∷ ms) is = since_from quantum (after_mark quantum r m) (since_after so_far m) ms (since_one quantum r so_far m is)
 
@@ -89,7 +89,7 @@ module _ (quantum origin : ℕ) (start : Group) (marks : List Mark) where
   pub turns_counted : here.turns ≡ turns_in marks
   turns_counted = turns_from quantum (progress_at origin start) marks ∙ omega arith
 
-  pub since_counted : here.since ≡ turns_in (since_barrier marks)
+  pub since_counted : here.turns_since ≡ turns_in (since_barrier marks)
   since_counted = since_from quantum (progress_at origin start) [] marks refl
 
   pub leases_found : map pair_of here.leases ≡ leases_in marks
@@ -298,7 +298,7 @@ module _ (start : Group) (origin : ℕ) (limits : Limits) (marks : List Mark) (l
   pub is_counted : IsCounted origin marks now
   is_counted = record {
     turns = turns_counted limits.quantum origin start marks;
-    since = since_counted limits.quantum origin start marks;
+    turns_since = since_counted limits.quantum origin start marks;
     leases = leases_found limits.quantum origin start marks;
     taken = taken_found limits.quantum origin start marks;
     barriers = barriers_from limits (progress_at origin start) marks legal;

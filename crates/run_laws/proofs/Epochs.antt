@@ -11,7 +11,7 @@ use Rattle.run_laws.proofs.FileBytes.{or_both}
 use Rattle.run_laws.proofs.LegalLaws.{in_order}
 use Rattle.run_laws.proofs.MachineLaws.{each_before, each_split, progress_more}
 use Rattle.run_laws.proofs.RestLaws.{order_at}
-use Rattle.run_laws.specs.AtRest.{EpochsHaveGroups}
+use Rattle.run_laws.specs.EpochGroups.{EpochsHaveGroups}
 use Rattle.run_defs.specs.Legal.{Allowed, Legal}
 use Rattle.run_defs.specs.Marks.{is_barrier, is_barrier_of}
 use Rattle.run_defs.specs.Progress.{Checkpoint, Progress, after_barrier, after_mark, checkpoint, checkpoint_of, group_of_epoch, progress_after, progress_at}

@@ -33,11 +33,11 @@ one_gone t (x ∷ xs) e = by_test (t x) (one_gone t xs) e
 
 pub order_kept : (limits : Limits) (origin : ℕ) (r : Progress) (m : Mark) → Allowed limits r m → IsInOrder limits origin r → IsInOrder limits origin (after_mark limits.quantum r m)
 order_kept limits origin r (Take worker pid) a o =
-    let few = a.all in let short = a.since in let lease : Lease = record { worker = worker; pid = pid; moved = false } in let size = length-append r.leases (lease ∷ []) in
-    record { begins = o.begins; fetched = o.fetched; made = o.made; one_open = o.one_open; counts = omega (arith, few, size); interval = omega (arith, short, size); epochs = o.epochs }
+    let few = a.turns in let short = a.interval in let lease : Lease = record { worker = worker; pid = pid; moved = false } in let size = length-append r.leases (lease ∷ []) in
+    record { begins = o.begins; fetched = o.fetched; made = o.made; one_open = o.one_open; turns = omega (arith, few, size); interval = omega (arith, short, size); epochs = o.epochs }
 order_kept limits origin r (Turn worker pid n) a o =
     let same = turn_epochs limits.quantum r.state pid n in let last = same.0 in let acked = same.1 in
-    let one = o.begins in let two = o.fetched in let three = o.made in let four = o.one_open in let fit = o.counts in let short = o.interval in
+    let one = o.begins in let two = o.fetched in let three = o.made in let four = o.one_open in let fit = o.turns in let short = o.interval in
     let less = one_gone (is_lease worker pid) r.leases a.leased in
     let size = length-map (filter (λ l. not (is_lease worker pid l)) r.leases) (λ l. record l { moved = does_something r.state pid n || l.moved }) in
     record {
@@ -45,27 +45,27 @@ order_kept limits origin r (Turn worker pid n) a o =
       fetched = omega (arith, acked, two);
       made = omega (arith, last, three);
       one_open = omega (arith, acked, last, four);
-      counts = omega (arith, fit, less, size);
+      turns = omega (arith, fit, less, size);
       interval = omega (arith, short, less, size);
       epochs = subst (λ n. All (λ c. c.epoch ≤ n) r.checkpoints) (sym last) o.epochs;
     }
 order_kept limits origin r (Barrier e) a o =
-    let up = a.rises in let acked = a.rests.acked in let three = o.made in let fit = o.counts in
+    let up = a.rises in let acked = a.rests.acked in let three = o.made in let fit = o.turns in
     record {
       begins = o.begins;
       fetched = o.fetched;
       made = omega (arith, up, three);
       one_open = omega (arith, up, acked);
-      counts = o.counts;
+      turns = o.turns;
       interval = omega (arith, ap length a.rests.no_lease);
       epochs = All-push (λ c. c.epoch ≤ e) r.checkpoints (checkpoint r e) (All-weaker (λ c. c.epoch ≤ r.state.standing.last) (λ c. c.epoch ≤ e) (λ c le. omega (arith, up, le)) r.checkpoints o.epochs) (omega arith);
     }
 order_kept limits origin r (Fetch e) a o =
     let made = a.made in let first = a.first in let two = o.fetched in
-    record { begins = o.begins; fetched = omega (arith, first, two); made = made; one_open = o.one_open; counts = o.counts; interval = o.interval; epochs = o.epochs }
+    record { begins = o.begins; fetched = omega (arith, first, two); made = made; one_open = o.one_open; turns = o.turns; interval = o.interval; epochs = o.epochs }
 order_kept limits origin r (Ack e) a o =
     let fetched = a.fetched in let first = a.first in let one = o.begins in let four = o.one_open in
-    record { begins = omega (arith, one, first); fetched = fetched; made = o.made; one_open = omega (arith, first, four); counts = o.counts; interval = o.interval; epochs = o.epochs }
+    record { begins = omega (arith, one, first); fetched = fetched; made = o.made; one_open = omega (arith, first, four); turns = o.turns; interval = o.interval; epochs = o.epochs }
 
 pub begins_in_order : (limits : Limits) (origin : ℕ) (start : Group) → IsInOrder limits origin (progress_at origin start)
 begins_in_order limits origin start = record {
@@ -73,7 +73,7 @@ begins_in_order limits origin start = record {
   fetched = omega arith;
   made = omega arith;
   one_open = omega arith;
-  counts = omega arith;
+  turns = omega arith;
   interval = omega arith;
   epochs = All-cons (λ c. c.epoch ≤ origin) _ [] (omega arith) (All-nil (λ c. c.epoch ≤ origin));
 }

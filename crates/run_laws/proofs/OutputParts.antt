@@ -6,7 +6,8 @@ use Rattle.group_defs.specs.Group.{Group}
 use Rattle.group_defs.specs.Output.{last_position}
 use Rattle.group_defs.specs.Standing.{barrier}
 use Rattle.run_laws.proofs.OutputLaws.{Holds, barrier_last, held_last, output_held}
-use Rattle.run_laws.specs.AtRest.{BarriersLetOut, IsTraceAtRest, OutputHasParts}
+use Rattle.run_laws.specs.OutputBetween.{BarriersLetOut, OutputHasParts}
+use Rattle.run_laws.specs.Rests.{IsTraceAtRest}
 use Rattle.run_defs.specs.Progress.{Progress, after_mark, output_between, progress_after, progress_at}
 use Rattle.run_defs.specs.declared.run.Limits.{Limits}
 use Rattle.run_defs.specs.declared.run.Mark.{Mark}

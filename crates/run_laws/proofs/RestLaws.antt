@@ -5,8 +5,8 @@ use Rattle.run_laws.proofs.LegalLaws.{in_order, order_kept}
 use Rattle.run_laws.proofs.MachineLaws.{each_more, each_none, each_weaker, progress_more}
 use Rattle.run_laws.proofs.ReadyLaws.{next_acts}
 use Rattle.run_laws.proofs.SoloLaws.{barrier_next, lease_of, take_next, turn_next, turn_rests}
-use Rattle.run_laws.specs.AtRest.{IsNextTurn, IsTraceAtRest, RestsFollow, with_ack, with_fetched, with_turn}
-use Rattle.run_defs.specs.Legal.{Allowed, IsAtRest, IsDue, Legal}
+use Rattle.run_laws.specs.Rests.{IsNextTurn, IsTraceAtRest, RestsFollow, with_ack, with_fetched, with_turn}
+use Rattle.run_defs.specs.Legal.{Allowed, IsAtRest, HasBarrierCause, Legal}
 use Rattle.run_defs.specs.Progress.{Progress, after_mark, progress_after, progress_at}
 use Rattle.run_defs.specs.Solo.{IsSoloMark, IsSoloSoFar}
 use Rattle.run_defs.specs.Turns.{IsTurn}
@@ -39,7 +39,7 @@ module _ (limits : Limits) (origin : ℕ) (r : Progress) (o : IsInOrder limits o
     pub turn_done : IsAtRest (after_mark limits.quantum taken (Turn 0 pid n))
     turn_done = turn_rests limits origin taken in_taken 0 pid n pid leased at.acked turn_mark.0.leased
 
-  module _ (epoch : ℕ) (due : IsDue limits r) (is : epoch ≡ r.state.standing.last + 1) where
+  module _ (epoch : ℕ) (due : HasBarrierCause limits r) (is : epoch ≡ r.state.standing.last + 1) where
     abbrev pub made : Progress
     made = after_mark limits.quantum r (Barrier epoch)
 
@@ -85,12 +85,12 @@ module _ (start : Group) (origin : ℕ) (limits : Limits) where
         let both = one_more (marks ++ Take 0 pid ∷ []) (after_mark limits.quantum r (Take 0 pid)) (Turn 0 pid n) (take pid next) (turn_mark limits origin r o at.rests pid n next whole) in
         record { so_far = both.0; stands = both.1; rests = turn_done limits origin r o at.rests pid n next whole }
 
-    fetch : (epoch : ℕ) → IsDue limits r → epoch ≡ r.state.standing.last + 1 → Stands (with_fetched marks epoch) (progress_after limits.quantum r (Barrier epoch ∷ Fetch epoch ∷ []))
+    fetch : (epoch : ℕ) → HasBarrierCause limits r → epoch ≡ r.state.standing.last + 1 → Stands (with_fetched marks epoch) (progress_after limits.quantum r (Barrier epoch ∷ Fetch epoch ∷ []))
     fetch epoch due is =
         one_more (marks ++ Barrier epoch ∷ []) (after_mark limits.quantum r (Barrier epoch)) (Fetch epoch)
         (one_more marks r (Barrier epoch) begun (barrier_mark limits origin r o at.rests epoch due is)) (fetch_mark limits origin r o at.rests epoch due is)
 
-    commit : (epoch : ℕ) → IsDue limits r → epoch ≡ r.state.standing.last + 1 → IsTraceAtRest start origin limits (with_ack marks epoch) (progress_after limits.quantum r (Barrier epoch ∷ Fetch epoch ∷ Ack epoch ∷ []))
+    commit : (epoch : ℕ) → HasBarrierCause limits r → epoch ≡ r.state.standing.last + 1 → IsTraceAtRest start origin limits (with_ack marks epoch) (progress_after limits.quantum r (Barrier epoch ∷ Fetch epoch ∷ Ack epoch ∷ []))
     commit epoch due is =
         let all = one_more (with_fetched marks epoch) (progress_after limits.quantum r (Barrier epoch ∷ Fetch epoch ∷ [])) (Ack epoch) (fetch epoch due is) (ack_mark limits origin r o at.rests epoch due is) in
         record { so_far = all.0; stands = all.1; rests = commit_done limits origin r o at.rests epoch due is }

@@ -81,7 +81,7 @@ module _ (limits : Limits) (origin : ℕ) (small : LimitsFit limits) where
   IsGood r = IsInOrder limits origin r × IsAfter (100000 * r.turns) r.state.group
 
   few_turns : (r : Progress) → IsInOrder limits origin r → 100000 * r.turns ≤ 100000000000
-  few_turns r o = let most = small.turns.1 in let turns = o.counts in omega (arith, most, turns)
+  few_turns r o = let most = small.turns.1 in let turns = o.turns in omega (arith, most, turns)
 
   good_kept : (r : Progress) (m : Mark) → Allowed limits r m → IsGood r → IsGood (after_mark limits.quantum r m)
   good_kept r (Take worker pid) a (o, at) = (order_kept limits origin r (Take worker pid) a o, at)

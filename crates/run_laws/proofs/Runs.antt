@@ -25,18 +25,18 @@ use Rattle.run_defs.specs.declared.run.Limits.{Limits}
 use Rattle.run_defs.specs.declared.run.Mark.TheVariants.{Take, Turn}
 
 -- No Barrier without a Turn or before its time, and no end while a process is ready.
-no_turn : (limits : Limits) (r : Progress) → r.since ≡ 0 → (epoch : ℕ) → BarrierAllowed limits r epoch → ⊥
-no_turn limits r none epoch b = omega (arith, none, b.due.turn)
+no_turn : (limits : Limits) (r : Progress) → r.turns_since ≡ 0 → (epoch : ℕ) → BarrierAllowed limits r epoch → ⊥
+no_turn limits r none epoch b = omega (arith, none, b.cause.turn)
 
-not_due : (limits : Limits) (r : Progress) → r.since < limits.every → r.turns < limits.turns → (ready r.state ≡ [] → ⊥) → (epoch : ℕ) → BarrierAllowed limits r epoch → ⊥
-not_due limits r few less some epoch b = elim b.due.cause [ inl e ↦ omega (arith, few, e) | inr (inl e) ↦ omega (arith, less, e) | inr (inr e) ↦ some e ]
+not_due : (limits : Limits) (r : Progress) → r.turns_since < limits.every → r.turns < limits.turns → (ready r.state ≡ [] → ⊥) → (epoch : ℕ) → BarrierAllowed limits r epoch → ⊥
+not_due limits r few less some epoch b = elim b.cause.cause [ inl e ↦ omega (arith, few, e) | inr (inl e) ↦ omega (arith, less, e) | inr (inr e) ↦ some e ]
 
 goes_on : (limits : Limits) (r : Progress) → IsTrue (list_any is_running r.state.group.frame.procs) → (ready r.state ≡ [] → ⊥) → r.turns < limits.turns → HasEnded limits r → ⊥
 goes_on limits r runs some few (settled, inl done) = cc
 goes_on limits r runs some few (settled, inr (inl stuck)) = some stuck.all_wait
 goes_on limits r runs some few (settled, inr (inr spent)) = omega (arith, few, spent.turns)
 
-turns_stand : (limits : Limits) (r : Progress) → 0 < r.since → HasEnded limits r → ⊥
+turns_stand : (limits : Limits) (r : Progress) → 0 < r.turns_since → HasEnded limits r → ⊥
 turns_stand limits r some (settled, end) = omega (arith, some, settled.no_turn)
 
 pub exit_solo : (rest stack : List ℕ) → IsSoloTrace (exits_at_once rest stack) 0 default_limits exit_trace
@@ -46,13 +46,13 @@ exit_solo rest stack =
     record {
       so_far = (
         (
-          record { worker_is = omega arith; idle = refl; next = refl; since = omega arith; all = omega arith },
+          record { worker_is = omega arith; idle = refl; next = refl; interval = omega arith; turns = omega arith },
           record { worker_is = refl; rests = record { no_lease = refl; acked = refl }; no_barrier = no_turn default_limits r refl; goes_on = goes_on default_limits r refl (λ e. absurd (cc)) (omega arith) },
         ),
         (
           (record { leased = refl; turn = record { within = omega arith; all_local = ((tt, refl), refl); no_more = λ _. refl }; moves = refl }, tt),
           (
-            (record { rises = refl; rests = record { no_lease = refl; acked = refl }; due = record { turn = omega arith; cause = inr (inr refl) } }, tt),
+            (record { rises = refl; rests = record { no_lease = refl; acked = refl }; cause = record { turn = omega arith; cause = inr (inr refl) } }, tt),
             ((record { made = omega arith; first = omega arith }, tt), ((record { fetched = omega arith; first = omega arith }, tt), tt)),
           ),
         ),
@@ -76,20 +76,20 @@ hi_solo rest stack =
     record {
       so_far = (
         (
-          record { worker_is = omega arith; idle = refl; next = refl; since = omega arith; all = omega arith },
+          record { worker_is = omega arith; idle = refl; next = refl; interval = omega arith; turns = omega arith },
           record { worker_is = refl; rests = record { no_lease = refl; acked = refl }; no_barrier = no_turn default_limits r refl; goes_on = goes_on default_limits r refl (λ e. absurd (cc)) (omega arith) },
         ),
         (
           (record { leased = refl; turn = record { within = omega arith; all_local = (((((tt, refl), refl), refl), refl), refl); no_more = λ _. refl }; moves = refl }, tt),
           (
             (
-              record { worker_is = omega arith; idle = refl; next = refl; since = omega arith; all = omega arith },
+              record { worker_is = omega arith; idle = refl; next = refl; interval = omega arith; turns = omega arith },
               record { worker_is = refl; rests = record { no_lease = refl; acked = refl }; no_barrier = not_due default_limits r2 (omega arith) (omega arith) (λ e. absurd (cc)); goes_on = turns_stand default_limits r2 (omega arith) },
             ),
             (
               (record { leased = refl; turn = record { within = omega arith; all_local = ((tt, refl), refl); no_more = λ _. refl }; moves = refl }, tt),
               (
-                (record { rises = refl; rests = record { no_lease = refl; acked = refl }; due = record { turn = omega arith; cause = inr (inr refl) } }, tt),
+                (record { rises = refl; rests = record { no_lease = refl; acked = refl }; cause = record { turn = omega arith; cause = inr (inr refl) } }, tt),
                 ((record { made = omega arith; first = omega arith }, tt), ((record { fetched = omega arith; first = omega arith }, tt), tt)),
               ),
             ),

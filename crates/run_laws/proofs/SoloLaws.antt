@@ -8,9 +8,9 @@ use Rattle.run_laws.proofs.LegalLaws.{begins_in_order, order_kept}
 use Rattle.run_laws.proofs.MachineLaws.{each_keeps, each_split}
 use Rattle.run_laws.proofs.ReadyLaws.{all_free, done_ready, next_acts}
 use Rattle.run_laws.proofs.TurnLaws.{one_length, turn_epochs}
-use Rattle.run_laws.specs.AtRest.{IsNextTurn}
+use Rattle.run_laws.specs.Rests.{IsNextTurn}
 use Rattle.run_defs.specs.Ends.{HasEnded}
-use Rattle.run_defs.specs.Legal.{IsAtRest, IsDue, TakeAllowed, has_moved, is_idle, is_unleased, next_pid, ready}
+use Rattle.run_defs.specs.Legal.{IsAtRest, HasBarrierCause, TakeAllowed, has_moved, is_idle, is_unleased, next_pid, ready}
 use Rattle.run_defs.specs.Progress.{EachMark, Lease, Progress, after_mark, is_lease, leases_after_turn, progress_after, progress_at}
 use Rattle.run_defs.specs.Solo.{IsSoloMark, IsSoloSoFar, IsSoloTrace}
 use Rattle.run_defs.specs.Turns.{IsTurn, does_something}
@@ -37,7 +37,7 @@ no_room leases t none h = let over : list_any t [] ≡ true = sym (ap (list_any 
 module _ (limits : Limits) (origin : ℕ) (r : Progress) (o : IsInOrder limits origin r) where
   -- which mark is next
   abbrev pub Expects : Phase r → Mark → Type 0
-  Expects (resting at) m = ((pid : ℕ) × (m ≡ Take 0 pid) × (next_pid r.taken (ready r.state) ≡ Some pid) × (IsDue limits r → ⊥)) ⊎ ((m ≡ Barrier (r.state.standing.last + 1)) × IsDue limits r)
+  Expects (resting at) m = ((pid : ℕ) × (m ≡ Take 0 pid) × (next_pid r.taken (ready r.state) ≡ Some pid) × (HasBarrierCause limits r → ⊥)) ⊎ ((m ≡ Barrier (r.state.standing.last + 1)) × HasBarrierCause limits r)
   Expects (turning pid is acked acts) m = (n : ℕ) × (m ≡ Turn 0 pid n) × IsTurn limits.quantum r.state pid n
   Expects (committing none one) m = ((m ≡ Fetch r.state.standing.last) × (r.fetched < r.state.standing.last)) ⊎ ((m ≡ Ack r.state.standing.last) × (r.state.standing.last ≤ r.fetched))
 
@@ -60,9 +60,9 @@ module _ (limits : Limits) (origin : ℕ) (r : Progress) (o : IsInOrder limits o
 
   pub next_mark : (p : Phase r) (m : Mark) → IsSoloMark limits r m → Expects p m
   next_mark (resting at) (Take w p) (a, s) =
-      inl (p, ap (λ (n : ℕ). Take n p) s.worker_is, sym (free_next p at.no_lease) ∙ a.next, λ due. s.no_barrier (r.state.standing.last + 1) (record { rises = refl; rests = at; due = due }))
+      inl (p, ap (λ (n : ℕ). Take n p) s.worker_is, sym (free_next p at.no_lease) ∙ a.next, λ due. s.no_barrier (r.state.standing.last + 1) (record { rises = refl; rests = at; cause = due }))
   next_mark (resting at) (Turn w p n) (a, s) = absurd (no_room r.leases (is_lease w p) at.no_lease a.leased)
-  next_mark (resting at) (Barrier e) (a, s) = inr (ap Barrier a.rises, a.due)
+  next_mark (resting at) (Barrier e) (a, s) = inr (ap Barrier a.rises, a.cause)
   next_mark (resting at) (Fetch e) (a, s) = absurd (no_fetch e at.acked a.made a.first)
   next_mark (resting at) (Ack e) (a, s) = absurd (no_ack e at.acked a.fetched a.first)
   next_mark (turning q is acked acts) (Take w p) (a, s) = absurd (let over : [] ≡ lease_of q ∷ [] = sym s.rests.no_lease ∙ is in cc)
@@ -102,7 +102,7 @@ module _ (limits : Limits) (origin : ℕ) (r : Progress) (o : IsInOrder limits o
   pub no_more_marks : (m : Mark) → HasEnded limits r → IsSoloMark limits r m → ⊥
   no_more_marks (Take w p) end (a, s) = s.goes_on end
   no_more_marks (Turn w p n) end (a, s) = no_room r.leases (is_lease w p) end.0.rests.no_lease a.leased
-  no_more_marks (Barrier e) end (a, s) = let none = end.0.no_turn in let some = a.due.turn in omega (arith, none, some)
+  no_more_marks (Barrier e) end (a, s) = let none = end.0.no_turn in let some = a.cause.turn in omega (arith, none, some)
   no_more_marks (Fetch e) end (a, s) = no_fetch e end.0.rests.acked a.made a.first
   no_more_marks (Ack e) end (a, s) = no_ack e end.0.rests.acked a.fetched a.first
 
@@ -143,29 +143,29 @@ module _ (limits : Limits) (origin : ℕ) (r : Progress) (o : IsInOrder limits o
   itself n = search rules
 
   pub take_next : IsAtRest r → (pid : ℕ) → IsNextTurn limits r pid → IsSoloMark limits r (Take 0 pid)
-  take_next at pid next = (allowed, record { worker_is = refl; rests = at; no_barrier = λ e b. not_due b.due.cause; goes_on = not_over })
+  take_next at pid next = (allowed, record { worker_is = refl; rests = at; no_barrier = λ e b. not_due b.cause.cause; goes_on = not_over })
     where
       allowed : TakeAllowed limits r 0 pid
       allowed = record {
         worker_is = omega arith;
         idle = ap (λ (l : List Lease). is_idle l 0) at.no_lease;
         next = free_next pid at.no_lease ∙ next.next;
-        since = omega (arith, ap length at.no_lease, next.short);
-        all = omega (arith, ap length at.no_lease, next.few);
+        interval = omega (arith, ap length at.no_lease, next.interval);
+        turns = omega (arith, ap length at.no_lease, next.turns);
       }
 
       not_none : ready r.state ≡ [] → ⊥
       not_none none = let over : next_pid r.taken [] ≡ Some pid = sym (ap (next_pid r.taken) none) ∙ next.next in cc
 
-      not_due : (r.since ≡ limits.every) ⊎ ((r.turns ≡ limits.turns) ⊎ (ready r.state ≡ [])) → ⊥
-      not_due (inl every) = omega (arith, next.short, every)
-      not_due (inr (inl all)) = omega (arith, next.few, all)
+      not_due : (r.turns_since ≡ limits.every) ⊎ ((r.turns ≡ limits.turns) ⊎ (ready r.state ≡ [])) → ⊥
+      not_due (inl every) = omega (arith, next.interval, every)
+      not_due (inr (inl all)) = omega (arith, next.turns, all)
       not_due (inr (inr none)) = not_none none
 
       not_over : HasEnded limits r → ⊥
       not_over (settled, inl done) = not_none (done_ready r.state done)
       not_over (settled, inr (inl stuck)) = not_none stuck.all_wait
-      not_over (settled, inr (inr spent)) = omega (arith, next.few, spent.turns)
+      not_over (settled, inr (inr spent)) = omega (arith, next.turns, spent.turns)
 
   pub turn_next : (pid n : ℕ) → r.leases ≡ lease_of pid ∷ [] → is_waiting r.state pid ≡ false → IsTurn limits.quantum r.state pid n → IsSoloMark limits r (Turn 0 pid n)
   turn_next pid n is acts turn = (record { leased = its; turn = turn; moves = moves }, tt)
@@ -180,8 +180,8 @@ module _ (limits : Limits) (origin : ℕ) (r : Progress) (o : IsInOrder limits o
       moves : (does_something r.state pid n || has_moved r.leases 0 pid) ≡ true
       moves = ap (λ (t : Bool). not ((n == 0) && t) || has_moved r.leases 0 pid) acts ∙ not_both (n == 0) _
 
-  pub barrier_next : IsAtRest r → IsDue limits r → (e : ℕ) → e ≡ r.state.standing.last + 1 → IsSoloMark limits r (Barrier e)
-  barrier_next at due e is = (record { rises = is; rests = at; due = due }, tt)
+  pub barrier_next : IsAtRest r → HasBarrierCause limits r → (e : ℕ) → e ≡ r.state.standing.last + 1 → IsSoloMark limits r (Barrier e)
+  barrier_next at due e is = (record { rises = is; rests = at; cause = due }, tt)
 
 -- two whole traces from one place are one
 abbrev Whole : Limits → Progress → List Mark → Type 0

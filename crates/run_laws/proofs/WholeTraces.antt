@@ -13,9 +13,9 @@ use Rattle.run_laws.proofs.OutputLaws.{Holds, barrier_last, held_at, held_mark}
 use Rattle.run_laws.proofs.ReadyLaws.{done_ready, next_some}
 use Rattle.run_laws.proofs.RestLaws.{ack_mark, barrier_mark, commit_done, fetch_mark, turn_done, turn_mark}
 use Rattle.run_laws.proofs.SoloLaws.{Phase, committing, phase_kept, resting, take_next, turn_next, turn_rests, turning}
-use Rattle.run_laws.specs.AtRest.{IsNextTurn}
+use Rattle.run_laws.specs.Rests.{IsNextTurn}
 use Rattle.run_defs.specs.Ends.{HasEnded, IsDone, IsSpent, IsStuck}
-use Rattle.run_defs.specs.Legal.{IsAtRest, IsDue, next_pid, ready}
+use Rattle.run_defs.specs.Legal.{IsAtRest, HasBarrierCause, next_pid, ready}
 use Rattle.run_defs.specs.Progress.{EachMark, Progress, after_mark, progress_after, progress_at}
 use Rattle.run_defs.specs.Solo.{IsSoloMark, IsSoloPrefix, IsSoloSoFar}
 use Rattle.run_defs.specs.Turns.{AllLocal, IsTurn, steps_of}
@@ -44,7 +44,7 @@ record IsGood (limits : Limits) (origin first : ℕ) (r : Progress) : Type 0 whe
   order : IsInOrder limits origin r
   phase : Phase r
   held : Holds first r.output r.state.group.frame.out
-  nothing_new : r.since ≡ 0 → r.state.group.frame.out.mark ≡ last_position r.state.group.frame.out
+  nothing_new : r.turns_since ≡ 0 → r.state.group.frame.out.mark ≡ last_position r.state.group.frame.out
 
 module _ (limits : Limits) (origin first : ℕ) (every : 0 < limits.every) where
   abbrev Good : Progress → Type 0
@@ -61,7 +61,7 @@ module _ (limits : Limits) (origin first : ℕ) (every : 0 < limits.every) where
     nothing_new = new_after m;
   }
     where
-      new_after : (m : Mark) → (next_to r m).since ≡ 0 → (next_to r m).state.group.frame.out.mark ≡ last_position (next_to r m).state.group.frame.out
+      new_after : (m : Mark) → (next_to r m).turns_since ≡ 0 → (next_to r m).state.group.frame.out.mark ≡ last_position (next_to r m).state.group.frame.out
       new_after (Take worker pid) none = good.nothing_new none
       new_after (Turn worker pid n) none = absurd (omega (arith, none))
       new_after (Barrier epoch) none = sym (barrier_last r.state.group.frame.out good.held.mark_above good.held.mark_below)
@@ -77,38 +77,38 @@ module _ (limits : Limits) (origin first : ℕ) (every : 0 < limits.every) where
   step r m a (more, each, ended) = (m ∷ more, (a, each), ended)
 
   -- at rest a barrier is due, a process's turn is next, or the run has ended
-  choice : (r : Progress) → Good r → IsAtRest r → IsDue limits r ⊎ (((pid : ℕ) × IsNextTurn limits r pid) ⊎ HasEnded limits r)
-  choice r good at = by_case (r.since == 0) refl (ready r.state) refl (r.turns == limits.turns) refl (r.since == limits.every) refl
+  choice : (r : Progress) → Good r → IsAtRest r → HasBarrierCause limits r ⊎ (((pid : ℕ) × IsNextTurn limits r pid) ⊎ HasEnded limits r)
+  choice r good at = by_case (r.turns_since == 0) refl (ready r.state) refl (r.turns == limits.turns) refl (r.turns_since == limits.every) refl
     where
-      over : r.since ≡ 0 → IsDone r.state.group ⊎ (IsStuck r.state ⊎ IsSpent limits r) → HasEnded limits r
+      over : r.turns_since ≡ 0 → IsDone r.state.group ⊎ (IsStuck r.state ⊎ IsSpent limits r) → HasEnded limits r
       over none end = (record { rests = at; no_turn = none }, end)
 
-      done_or_stuck : ready r.state ≡ [] → r.since ≡ 0 → (b : Bool) → list_any is_running r.state.group.frame.procs ≡ b → HasEnded limits r
+      done_or_stuck : ready r.state ≡ [] → r.turns_since ≡ 0 → (b : Bool) → list_any is_running r.state.group.frame.procs ≡ b → HasEnded limits r
       done_or_stuck is none true runs = over none (inr (inl (record { runs = runs; all_wait = is; nothing_new = good.nothing_new none })))
       done_or_stuck is none false done = over none (inl done)
 
       some : (x : ℕ) (xs : List ℕ) → ready r.state ≡ x ∷ xs → ready r.state ≡ [] → ⊥
       some x xs is none = let wrong : [] ≡ x ∷ xs = sym none ∙ is in cc
 
-      turn : (x : ℕ) (xs : List ℕ) → ready r.state ≡ x ∷ xs → r.since < limits.every → (r.turns == limits.turns) ≡ false → (pid : ℕ) × IsNextTurn limits r pid
+      turn : (x : ℕ) (xs : List ℕ) → ready r.state ≡ x ∷ xs → r.turns_since < limits.every → (r.turns == limits.turns) ≡ false → (pid : ℕ) × IsNextTurn limits r pid
       turn x xs is short f =
           let pid = next_some r.taken x xs in let other : r.turns ≡ limits.turns → ⊥ = λ same. grind (arith, f, same) in
-          (pid.0, record { next = ap (next_pid r.taken) is ∙ pid.1; short = short; few = omega (arith, good.order.counts, other) })
+          (pid.0, record { next = ap (next_pid r.taken) is ∙ pid.1; interval = short; turns = omega (arith, good.order.turns, other) })
 
-      due : (r.since == 0) ≡ false → (r.since ≡ limits.every) ⊎ ((r.turns ≡ limits.turns) ⊎ (ready r.state ≡ [])) → IsDue limits r
-      due e cause = let not_none : r.since ≡ 0 → ⊥ = λ none. grind (arith, e, none) in record { turn = omega (arith, not_none); cause = cause }
+      due : (r.turns_since == 0) ≡ false → (r.turns_since ≡ limits.every) ⊎ ((r.turns ≡ limits.turns) ⊎ (ready r.state ≡ [])) → HasBarrierCause limits r
+      due e cause = let not_none : r.turns_since ≡ 0 → ⊥ = λ none. grind (arith, e, none) in record { turn = omega (arith, not_none); cause = cause }
 
-      by_case : (a : Bool) → (r.since == 0) ≡ a → (pids : List ℕ) → ready r.state ≡ pids → (b : Bool) → (r.turns == limits.turns) ≡ b → (c : Bool) → (r.since == limits.every) ≡ c
-          → IsDue limits r ⊎ (((pid : ℕ) × IsNextTurn limits r pid) ⊎ HasEnded limits r)
+      by_case : (a : Bool) → (r.turns_since == 0) ≡ a → (pids : List ℕ) → ready r.state ≡ pids → (b : Bool) → (r.turns == limits.turns) ≡ b → (c : Bool) → (r.turns_since == limits.every) ≡ c
+          → HasBarrierCause limits r ⊎ (((pid : ℕ) × IsNextTurn limits r pid) ⊎ HasEnded limits r)
       by_case true e [] is b f c h = inr (inr (done_or_stuck is (grind (arith, e)) _ refl))
       by_case true e (x ∷ xs) is true f c h =
           inr (inr (over (grind (arith, e)) (inr (inr (record { turns = grind (arith, f); not_done = λ done. some x xs is (done_ready r.state done); not_stuck = λ stuck. some x xs is stuck.all_wait })))))
-      by_case true e (x ∷ xs) is false f c h = let none : r.since ≡ 0 = grind (arith, e) in inr (inl (turn x xs is (omega (arith, none, every)) f))
+      by_case true e (x ∷ xs) is false f c h = let none : r.turns_since ≡ 0 = grind (arith, e) in inr (inl (turn x xs is (omega (arith, none, every)) f))
       by_case false e [] is b f c h = inl (due e (inr (inr is)))
       by_case false e (x ∷ xs) is true f c h = inl (due e (inr (inl (grind (arith, f)))))
       by_case false e (x ∷ xs) is false f true h = inl (due e (inl (grind (arith, h))))
       by_case false e (x ∷ xs) is false f false h =
-          let other : r.since ≡ limits.every → ⊥ = λ same. grind (arith, h, same) in inr (inl (turn x xs is (omega (arith, good.order.interval, other)) f))
+          let other : r.turns_since ≡ limits.every → ⊥ = λ same. grind (arith, h, same) in inr (inl (turn x xs is (omega (arith, good.order.interval, other)) f))
 
   -- rests from which one turn more was made lead to an end
   abbrev TurnsEnd : ℕ → Type 0
@@ -129,7 +129,7 @@ module _ (limits : Limits) (origin first : ℕ) (every : 0 < limits.every) where
   abbrev committed : Progress → Progress
   committed r = let e = r.state.standing.last + 1 in progress_after limits.quantum r (Barrier e ∷ Fetch e ∷ Ack e ∷ [])
 
-  commit : (r : Progress) → Good r → IsAtRest r → IsDue limits r → (Good (committed r) → IsAtRest (committed r) → Whole (committed r)) → Whole r
+  commit : (r : Progress) → Good r → IsAtRest r → HasBarrierCause limits r → (Good (committed r) → IsAtRest (committed r) → Whole (committed r)) → Whole r
   commit r good at due rest =
       let e = r.state.standing.last + 1 in let made = next_to r (Barrier e) in let fetched = next_to made (Fetch e) in
       let b = barrier_mark limits origin r good.order at e due refl in
@@ -141,22 +141,22 @@ module _ (limits : Limits) (origin first : ℕ) (every : 0 < limits.every) where
   from_rest : (r : Progress) → Good r → IsAtRest r → TurnsEnd r.turns → Whole r
   from_rest r good at next = by_choice (choice r good at)
     where
-      by_choice : IsDue limits r ⊎ (((pid : ℕ) × IsNextTurn limits r pid) ⊎ HasEnded limits r) → Whole r
+      by_choice : HasBarrierCause limits r ⊎ (((pid : ℕ) × IsNextTurn limits r pid) ⊎ HasEnded limits r) → Whole r
       by_choice (inr (inl (pid, turn))) = go_on r good at next pid turn
       by_choice (inr (inr ended)) = stop r ended
       by_choice (inl due) = commit r good at due (λ good' at'. again good' at' (choice _ good' at'))
         where
-          again : Good (committed r) → IsAtRest (committed r) → IsDue limits (committed r) ⊎ (((pid : ℕ) × IsNextTurn limits (committed r) pid) ⊎ HasEnded limits (committed r)) → Whole (committed r)
+          again : Good (committed r) → IsAtRest (committed r) → HasBarrierCause limits (committed r) ⊎ (((pid : ℕ) × IsNextTurn limits (committed r) pid) ⊎ HasEnded limits (committed r)) → Whole (committed r)
           again good' at' (inl due') = absurd (omega (arith, due'.turn))
           again good' at' (inr (inl (pid, turn))) = go_on (committed r) good' at' next pid turn
           again good' at' (inr (inr ended)) = stop (committed r) ended
 
   by_turns : (left : ℕ) (r : Progress) → Good r → IsAtRest r → r.turns + left ≡ limits.turns → Whole r
-  by_turns zero r good at e = from_rest r good at (λ r' good' at' more. absurd (omega (arith, e, more, good'.order.counts)))
+  by_turns zero r good at e = from_rest r good at (λ r' good' at' more. absurd (omega (arith, e, more, good'.order.turns)))
   by_turns (suc left) r good at e = from_rest r good at (λ r' good' at' more. by_turns left r' good' at' (omega (arith, e, more)))
 
   to_end : (r : Progress) → Good r → IsAtRest r → Whole r
-  to_end r good at = by_turns (limits.turns - r.turns) r good at (omega (arith, good.order.counts))
+  to_end r good at = by_turns (limits.turns - r.turns) r good at (omega (arith, good.order.turns))
 
   from_phase : (r : Progress) → Good r → Phase r → Whole r
   from_phase r good (resting at) = to_end r good at

@@ -34,13 +34,13 @@ abbrev pub is_between : ℕ → ℕ → ℕ → Bool
 is_between first last epoch = nat_lt first epoch && nat_le epoch last
 
 -- What stands after a legal trace from an origin's epoch, by these words.
-pub record IsCounted (origin : ℕ) (marks : List Mark) (r : Progress) : Type 0 where
+pub record IsCounted (origin_epoch : ℕ) (marks : List Mark) (r : Progress) : Type 0 where
   pub turns : r.turns ≡ turns_in marks
-  pub since : r.since ≡ turns_in (since_barrier marks)
+  pub turns_since : r.turns_since ≡ turns_in (since_barrier marks)
   pub leases : map (λ l. (l.worker, l.pid)) r.leases ≡ leases_in marks
   pub taken : r.taken ≡ last_taken marks
-  pub barriers : r.state.standing.last ≡ origin + barriers_in marks
-  pub made : (epoch : ℕ) → list_any (is_barrier_of epoch) marks ≡ is_between origin r.state.standing.last epoch
-  pub fetched : (epoch : ℕ) → list_any (is_fetch_of epoch) marks ≡ is_between origin r.fetched epoch
-  pub acked : (epoch : ℕ) → list_any (is_ack_of epoch) marks ≡ is_between origin r.state.standing.acked epoch
+  pub barriers : r.state.standing.last ≡ origin_epoch + barriers_in marks
+  pub made : (epoch : ℕ) → list_any (is_barrier_of epoch) marks ≡ is_between origin_epoch r.state.standing.last epoch
+  pub fetched : (epoch : ℕ) → list_any (is_fetch_of epoch) marks ≡ is_between origin_epoch r.fetched epoch
+  pub acked : (epoch : ℕ) → list_any (is_ack_of epoch) marks ≡ is_between origin_epoch r.state.standing.acked epoch
   pub all_acked : all_acked marks ≡ (r.state.standing.acked == r.state.standing.last)

@@ -1,5 +1,8 @@
 -- What the public clauses say.
-pub mod AtRest
 pub mod Counts
 pub mod Order
+pub mod Leases
+pub mod Rests
+pub mod EpochGroups
+pub mod OutputBetween
 pub mod Smallest

@@ -14,7 +14,9 @@ ghost use Rattle.group_laws.specs.Fresh.{IsFresh};
 ghost use Rattle.run_defs.specs.declared.run.Limits.{Limits};
 ghost use Rattle.run_defs.specs.declared.run.Mark.{Mark};
 ghost use Rattle.run_defs.specs.declared.run.Mark.TheVariants.{Barrier};
-ghost use Rattle.run_laws.specs.AtRest.{BarriersLetOut, EpochsHaveGroups, OutputHasParts, RestsFollow};
+ghost use Rattle.run_laws.specs.EpochGroups.{EpochsHaveGroups};
+ghost use Rattle.run_laws.specs.OutputBetween.{BarriersLetOut, OutputHasParts};
+ghost use Rattle.run_laws.specs.Rests.{RestsFollow};
 ghost use Rattle.run_defs.specs.Marks.{barriers_in, is_ack_of, is_barrier, is_barrier_of, is_fetch_of, is_take_of};
 ghost use Rattle.run_laws.specs.Counts.{IsCounted, did_something};
 ghost use Rattle.run_defs.specs.Ends.{HasEnded, IsDone};
@@ -54,20 +56,20 @@ pub fn barriers_mark_the_end()
 pub fn output_only_grows()
     ensures turns { (quantum : ℕ) (s : State) (pid n : ℕ) → (turned quantum s pid n).group.frame.out
         ≡ with_output s.group.frame.out (appended s.group (turned quantum s pid n).group) }
-    ensures held { (quantum origin : ℕ) (g : Group) (marks : List Mark) (r : Progress)
+    ensures held { (quantum origin_epoch : ℕ) (g : Group) (marks : List Mark) (r : Progress)
         → g.frame.out.from ≤ g.frame.out.mark → g.frame.out.mark ≤ last_position g.frame.out
-        → progress_after quantum (progress_at origin g) marks ≡ r
+        → progress_after quantum (progress_at origin_epoch g) marks ≡ r
         → drop (r.state.group.frame.out.from - g.frame.out.from) r.output
         ≡ r.state.group.frame.out.bytes }
-    ensures last { (quantum origin : ℕ) (g : Group) (marks : List Mark) (r : Progress)
+    ensures last { (quantum origin_epoch : ℕ) (g : Group) (marks : List Mark) (r : Progress)
         → g.frame.out.from ≤ g.frame.out.mark → g.frame.out.mark ≤ last_position g.frame.out
-        → progress_after quantum (progress_at origin g) marks ≡ r
+        → progress_after quantum (progress_at origin_epoch g) marks ≡ r
         → last_position r.state.group.frame.out ≡ g.frame.out.from + length r.output }
     ensures parts { (start : Group) (limits : Limits) → OutputHasParts start limits }
-    ensures lets_out { (start : Group) (origin : ℕ) (limits : Limits)
+    ensures lets_out { (start : Group) (origin_epoch : ℕ) (limits : Limits)
         → start.frame.out.from ≤ start.frame.out.mark
         → start.frame.out.mark ≤ last_position start.frame.out
-        → BarriersLetOut start origin limits }
+        → BarriersLetOut start origin_epoch limits }
 {}
 
 /// What stands after marks and further marks, and the groups of their epochs.
@@ -75,51 +77,55 @@ pub fn marks_follow_marks()
     ensures progress { (quantum : ℕ) (r : Progress) (a b : List Mark)
         → progress_after quantum r (a ++ b)
         ≡ progress_after quantum (progress_after quantum r a) b }
-    ensures epochs { (start : Group) (origin : ℕ) (limits : Limits)
-        → EpochsHaveGroups start origin limits }
+    ensures epochs { (start : Group) (origin_epoch : ℕ) (limits : Limits)
+        → EpochsHaveGroups start origin_epoch limits }
 {}
 
 /// A trace is legal exactly where each mark is allowed after those before it.
 pub fn legal_mark_by_mark()
-    ensures none { (start : Group) (origin : ℕ) (limits : Limits) → Legal start origin limits [] }
-    ensures before { (start : Group) (origin : ℕ) (limits : Limits) (a b : List Mark)
-        → Legal start origin limits (a ++ b) → Legal start origin limits a }
-    ensures each { (start : Group) (origin : ℕ) (limits : Limits) (a : List Mark) (m : Mark)
-        (b : List Mark) → Legal start origin limits (a ++ m ∷ b)
-        → Allowed limits (progress_after limits.quantum (progress_at origin start) a) m }
-    ensures one_more { (start : Group) (origin : ℕ) (limits : Limits) (a : List Mark) (m : Mark)
-        → Legal start origin limits a
-        → Allowed limits (progress_after limits.quantum (progress_at origin start) a) m
-        → Legal start origin limits (a ++ m ∷ []) }
+    ensures none { (start : Group) (origin_epoch : ℕ) (limits : Limits)
+        → Legal start origin_epoch limits [] }
+    ensures before { (start : Group) (origin_epoch : ℕ) (limits : Limits) (a b : List Mark)
+        → Legal start origin_epoch limits (a ++ b) → Legal start origin_epoch limits a }
+    ensures each { (start : Group) (origin_epoch : ℕ) (limits : Limits) (a : List Mark) (m : Mark)
+        (b : List Mark) → Legal start origin_epoch limits (a ++ m ∷ b)
+        → Allowed limits (progress_after limits.quantum (progress_at origin_epoch start) a) m }
+    ensures one_more { (start : Group) (origin_epoch : ℕ) (limits : Limits) (a : List Mark) (m :
+        Mark)
+        → Legal start origin_epoch limits a
+        → Allowed limits (progress_after limits.quantum (progress_at origin_epoch start) a) m
+        → Legal start origin_epoch limits (a ++ m ∷ []) }
 {}
 
 /// Turns, leases, barriers and epochs after a legal trace are what its marks say by counting and searching. So a Fetch is
 /// allowed where its Barrier stands before and no Fetch of its epoch does, and an Ack where the Fetch does and no Ack.
 pub fn marks_are_counted()
-    ensures counted { (start : Group) (origin : ℕ) (limits : Limits) (marks : List Mark)
-        → Legal start origin limits marks
-        → IsCounted origin marks (progress_after limits.quantum (progress_at origin start) marks) }
-    ensures fetch { (start : Group) (origin : ℕ) (limits : Limits) (marks : List Mark)
-        → Legal start origin limits marks → (epoch : ℕ)
-        → FetchAllowed (progress_after limits.quantum (progress_at origin start) marks) epoch
+    ensures counted { (start : Group) (origin_epoch : ℕ) (limits : Limits) (marks : List Mark)
+        → Legal start origin_epoch limits marks
+        → IsCounted origin_epoch marks (progress_after limits.quantum (progress_at origin_epoch
+        start) marks) }
+    ensures fetch { (start : Group) (origin_epoch : ℕ) (limits : Limits) (marks : List Mark)
+        → Legal start origin_epoch limits marks → (epoch : ℕ)
+        → FetchAllowed (progress_after limits.quantum (progress_at origin_epoch start) marks) epoch
         ↔ ((list_any (is_barrier_of epoch) marks ≡ true)
         × (list_any (is_fetch_of epoch) marks ≡ false)) }
-    ensures ack { (start : Group) (origin : ℕ) (limits : Limits) (marks : List Mark)
-        → Legal start origin limits marks → (epoch : ℕ)
-        → AckAllowed (progress_after limits.quantum (progress_at origin start) marks) epoch
+    ensures ack { (start : Group) (origin_epoch : ℕ) (limits : Limits) (marks : List Mark)
+        → Legal start origin_epoch limits marks → (epoch : ℕ)
+        → AckAllowed (progress_after limits.quantum (progress_at origin_epoch start) marks) epoch
         ↔ ((list_any (is_fetch_of epoch) marks ≡ true)
         × (list_any (is_ack_of epoch) marks ≡ false)) }
 {}
 
 /// A lease has moved just where a Turn that did something stands behind its Take.
 pub fn idle_turns_follow_others()
-    ensures found { (worker pid : ℕ) (start : Group) (origin : ℕ) (limits : Limits)
+    ensures found { (worker pid : ℕ) (start : Group) (origin_epoch : ℕ) (limits : Limits)
         (marks : List Mark)
-        → Legal start origin limits marks
-        → IsTrue (has_moved (progress_after limits.quantum (progress_at origin start)
+        → Legal start origin_epoch limits marks
+        → IsTrue (has_moved (progress_after limits.quantum (progress_at origin_epoch start)
         marks).leases worker pid)
         → (b : List Mark) × (m : Mark) × (c : List Mark) × (marks ≡ b ++ m ∷ c)
-        × IsTrue (did_something (progress_after limits.quantum (progress_at origin start) b) m)
+        × IsTrue (did_something (progress_after limits.quantum (progress_at origin_epoch start) b)
+        m)
         × (list_any (is_take_of worker pid) c ≡ false) }
     ensures stands { (worker pid quantum : ℕ) (r : Progress) (b : List Mark) (m : Mark)
         (c : List Mark)
@@ -131,23 +137,24 @@ pub fn idle_turns_follow_others()
 
 /// What each legal trace keeps to; so at most one Barrier, the last one, has no Ack.
 pub fn one_commit_at_a_time()
-    ensures order { (start : Group) (origin : ℕ) (limits : Limits) (marks : List Mark)
-        → Legal start origin limits marks → IsInOrder limits origin
-        (progress_after limits.quantum (progress_at origin start) marks) }
-    ensures one { (start : Group) (origin : ℕ) (limits : Limits) (marks : List Mark)
-        → Legal start origin limits marks
+    ensures order { (start : Group) (origin_epoch : ℕ) (limits : Limits) (marks : List Mark)
+        → Legal start origin_epoch limits marks → IsInOrder limits origin_epoch
+        (progress_after limits.quantum (progress_at origin_epoch start) marks) }
+    ensures one { (start : Group) (origin_epoch : ℕ) (limits : Limits) (marks : List Mark)
+        → Legal start origin_epoch limits marks
         → (epoch : ℕ) → list_any (is_barrier_of epoch) marks ≡ true
-        → (list_any (is_ack_of epoch) marks ≡ true) ⊎ (epoch ≡ origin + barriers_in marks) }
+        → (list_any (is_ack_of epoch) marks ≡ true) ⊎ (epoch ≡ origin_epoch + barriers_in marks) }
 {}
 
 /// A Barrier makes its epoch's checkpoint: the group right after it, with the pages that the interval before it touched,
 /// whatever follows. No other mark makes one.
 pub fn barriers_make_checkpoints()
-    ensures made { (start : Group) (origin : ℕ) (limits : Limits) (a : List Mark) (epoch : ℕ)
-        (b : List Mark) → Legal start origin limits (a ++ Barrier epoch ∷ b)
-        → checkpoint_of (progress_after limits.quantum (progress_at origin start)
+    ensures made { (start : Group) (origin_epoch : ℕ) (limits : Limits) (a : List Mark) (epoch : ℕ)
+        (b : List Mark) → Legal start origin_epoch limits (a ++ Barrier epoch ∷ b)
+        → checkpoint_of (progress_after limits.quantum (progress_at origin_epoch start)
         (a ++ Barrier epoch ∷ b)) epoch
-        ≡ Some (checkpoint (progress_after limits.quantum (progress_at origin start) a) epoch) }
+        ≡ Some (checkpoint (progress_after limits.quantum (progress_at origin_epoch start) a)
+        epoch) }
     ensures others { (quantum : ℕ) (r : Progress) (marks : List Mark) (epoch : ℕ)
         → list_any (is_barrier_of epoch) marks ≡ false
         → checkpoint_of (progress_after quantum r marks) epoch ≡ checkpoint_of r epoch }
@@ -203,21 +210,25 @@ pub fn end_in_a_family()
 /// There is at most one whole trace of a run on one thread, what such a run has logged so far is its beginning, and it comes
 /// from one rest to the next. In it a Take is followed by its Turn, a Barrier by its Fetch and that by its Ack.
 pub fn one_trace_on_one_thread()
-    ensures one { (start : Group) (origin : ℕ) (limits : Limits) (a b : List Mark)
-        → IsSoloTrace start origin limits a → IsSoloTrace start origin limits b → a ≡ b }
-    ensures follows { (start : Group) (origin : ℕ) (limits : Limits) (a : List Mark) (x y : Mark)
-        (b : List Mark) → IsSoloSoFar start origin limits (a ++ x ∷ y ∷ b) → Follows x y }
-    ensures legal { (start : Group) (origin : ℕ) (limits : Limits) (marks : List Mark)
-        → IsSoloSoFar start origin limits marks → Legal start origin limits marks }
-    ensures so_far { (start : Group) (origin : ℕ) (limits : Limits) (marks : List Mark)
-        → IsSoloPrefix start origin limits marks → IsSoloSoFar start origin limits marks }
+    ensures one { (start : Group) (origin_epoch : ℕ) (limits : Limits) (a b : List Mark)
+        → IsSoloTrace start origin_epoch limits a → IsSoloTrace start origin_epoch limits b
+        → a ≡ b }
+    ensures follows { (start : Group) (origin_epoch : ℕ) (limits : Limits) (a : List Mark) (x y :
+        Mark)
+        (b : List Mark) → IsSoloSoFar start origin_epoch limits (a ++ x ∷ y ∷ b) → Follows x y }
+    ensures legal { (start : Group) (origin_epoch : ℕ) (limits : Limits) (marks : List Mark)
+        → IsSoloSoFar start origin_epoch limits marks → Legal start origin_epoch limits marks }
+    ensures so_far { (start : Group) (origin_epoch : ℕ) (limits : Limits) (marks : List Mark)
+        → IsSoloPrefix start origin_epoch limits marks
+        → IsSoloSoFar start origin_epoch limits marks }
     // where the start's mark is its last position, as at the start of every run
-    ensures goes_on { (start : Group) (origin : ℕ) (limits : Limits) (marks : List Mark)
+    ensures goes_on { (start : Group) (origin_epoch : ℕ) (limits : Limits) (marks : List Mark)
         → start.frame.out.from ≤ start.frame.out.mark
         → start.frame.out.mark ≡ last_position start.frame.out → 0 < limits.every
-        → IsSoloSoFar start origin limits marks → IsSoloPrefix start origin limits marks }
-    ensures rests { (start : Group) (origin : ℕ) (limits : Limits)
-        → RestsFollow start origin limits }
+        → IsSoloSoFar start origin_epoch limits marks
+        → IsSoloPrefix start origin_epoch limits marks }
+    ensures rests { (start : Group) (origin_epoch : ℕ) (limits : Limits)
+        → RestsFollow start origin_epoch limits }
 {}
 
 /// A turn in a valid group changes no page that it doesn't touch: the page's bytes stay, or its object has gone. What was
@@ -246,15 +257,15 @@ pub fn first_checkpoint_has_all()
 /// A legal run from a valid group that isn't worn keeps it valid, and its numbers far from their types' ends: after each
 /// mark, and within a turn after each step.
 pub fn runs_keep_validity()
-    ensures marks { (limits : Limits) (origin : ℕ) (start : Group) (marks : List Mark)
+    ensures marks { (limits : Limits) (origin_epoch : ℕ) (start : Group) (marks : List Mark)
         → LimitsFit limits
-        → GroupIsValid start → HasUnwornNumbers start.frame → Legal start origin limits marks
-        → let r = progress_after limits.quantum (progress_at origin start) marks in
+        → GroupIsValid start → HasUnwornNumbers start.frame → Legal start origin_epoch limits marks
+        → let r = progress_after limits.quantum (progress_at origin_epoch start) marks in
         GroupIsValid r.state.group × IsFresh r.state.group }
-    ensures steps { (limits : Limits) (origin : ℕ) (start : Group) (marks : List Mark)
+    ensures steps { (limits : Limits) (origin_epoch : ℕ) (start : Group) (marks : List Mark)
         → LimitsFit limits
-        → GroupIsValid start → HasUnwornNumbers start.frame → Legal start origin limits marks
+        → GroupIsValid start → HasUnwornNumbers start.frame → Legal start origin_epoch limits marks
         → (pid n : ℕ) → n ≤ limits.quantum
-        → let s = (progress_after limits.quantum (progress_at origin start) marks).state in
+        → let s = (progress_after limits.quantum (progress_at origin_epoch start) marks).state in
         GroupIsValid (steps_of s pid n).group × IsFresh (steps_of s pid n).group }
 {}

@@ -71,12 +71,12 @@ pub record IsSafeSoFar (run : RunSoFar) (opened_at : ℕ) (acks : List AckMark) 
   pub acked : AreAcks run opened_at acks disk disk'
   pub released : Released run out out'
   -- nothing was written before the first fetch
-  pub unfetched : run.now.fetched ≡ run.origin → IsUnwritten disk disk'
+  pub unfetched : run.now.fetched ≡ run.origin_epoch → IsUnwritten disk disk'
 
 -- A run, on one thread or on several: its trace is legal, what it left is safe, and why it ended.
 pub record IsSafeRun (run : RunSoFar) (opened_at : ℕ) (acks : List AckMark) (disk disk' : DiskView)
     (out out' : SinkView) (answer : RunAnswer) : Type 0 where
-  pub legal : Legal run.start run.origin run.limits run.trace
+  pub legal : Legal run.start run.origin_epoch run.limits run.trace
   pub stands : IsSafeSoFar run opened_at acks disk disk' out out'
   pub ends : EndsFor run disk disk' out out' answer
 
@@ -96,5 +96,5 @@ pub record IsSoloRun (run : RunSoFar) (opened_at : ℕ) (acks : List AckMark) (d
       → ForSome disk.reading (λ r. (image : List ℕ) → LeftNow disk' image → HoldsLastAcknowledged run image)
   -- Nor was one begun and given up: the acknowledged commits are all that was written, on every disk, told or not.
   pub none_given_up : (answer ≡ DiskFault → ⊥) → IsOnlyCommitted run acks disk disk'
-  pub order : IsSoloPrefix run.start run.origin run.limits run.trace
-  pub whole : EndsByItself answer → IsSoloTrace run.start run.origin run.limits run.trace
+  pub order : IsSoloPrefix run.start run.origin_epoch run.limits run.trace
+  pub whole : EndsByItself answer → IsSoloTrace run.start run.origin_epoch run.limits run.trace

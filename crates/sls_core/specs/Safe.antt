@@ -34,17 +34,17 @@ pub record IsUnwritten (before after : DiskView) : Type 0 where
 pub record RunSoFar : Type 0 where
   pub limits : Limits
   pub start : Group
-  pub origin : ℕ
+  pub origin_epoch : ℕ
   pub trace : List Mark
   pub now : Progress
 
 abbrev pub run_of : Limits → Group → ℕ → List Mark → RunSoFar
-run_of limits start origin trace = record {
+run_of limits start origin_epoch trace = record {
   limits = limits;
   start = start;
-  origin = origin;
+  origin_epoch = origin_epoch;
   trace = trace;
-  now = progress_after limits.quantum (progress_at origin start) trace;
+  now = progress_after limits.quantum (progress_at origin_epoch start) trace;
 }
 
 -- the group after the whole trace
@@ -65,7 +65,7 @@ pub record HoldsEpoch (run : RunSoFar) (image : List ℕ) (epoch : ℕ) : Type 0
 -- It holds the group of one epoch; or the run began on a new disk, and no slot is open. A new disk's epoch is 0, which no image
 -- holds.
 abbrev pub HoldsOne : RunSoFar → List ℕ → Type 0
-HoldsOne run image = ((epoch : ℕ) × HoldsEpoch run image epoch) ⊎ ((run.origin ≡ 0) × (newest image ≡ None))
+HoldsOne run image = ((epoch : ℕ) × HoldsEpoch run image epoch) ⊎ ((run.origin_epoch ≡ 0) × (newest image ≡ None))
 
 -- The disk that comes back, whenever it stopped.
 pub record Safe (run : RunSoFar) (opened_at : ℕ) (acks : List AckMark) (before after : DiskView) : Type 0 where

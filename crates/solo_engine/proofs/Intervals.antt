@@ -10,7 +10,7 @@ use Rattle.group_defs.specs.Group.{Group}
 use Rattle.group_defs.specs.Output.{last_position}
 use Rattle.group_defs.specs.Standing.{group_barrier}
 use Rattle.run_defs.specs.Ends.{IsDone, IsSettled, IsSpent, IsStuck}
-use Rattle.run_defs.specs.Legal.{IsDue, ready}
+use Rattle.run_defs.specs.Legal.{HasBarrierCause, ready}
 use Rattle.run_defs.specs.Marks.{acked_epoch}
 use Rattle.run_defs.specs.Progress.{IsGroupOf, Progress, checkpoint, mark_of, output_between}
 use Rattle.run_defs.specs.Solo.{IsSoloSoFar, IsSoloTrace}
@@ -18,7 +18,7 @@ use Rattle.run_defs.specs.declared.run.AckMark.{AckMark}
 use Rattle.run_defs.specs.declared.run.Limits.{Limits}
 use Rattle.run_defs.specs.declared.run.Mark.{Mark}
 use Rattle.run_defs.specs.declared.run.Mark.TheVariants.{Barrier, Fetch, Ack}
-use Rattle.run_laws.specs.AtRest.{IsTraceAtRest, with_ack}
+use Rattle.run_laws.specs.Rests.{IsTraceAtRest, with_ack}
 use Rattle.ckpt_records.specs.Cost.{calls_for, free_blocks}
 use Rattle.ckpt_records.specs.Holds.{Holds, HoldsAt, IsCheckpointed}
 use Rattle.ckpt_records.specs.Newest.{NewestCheckpoint, checkpoint as kept_checkpoint, HasNewest, epoch_after, used_by}
@@ -54,10 +54,10 @@ here limits start origin trace acks disk0 disk out0 out = record { run = run_of 
 
 -- the same run with this trace
 abbrev pub logged : RunHere → List Mark → RunHere
-logged x trace = record x { run = run_of x.run.limits x.run.start x.run.origin trace }
+logged x trace = record x { run = run_of x.run.limits x.run.start x.run.origin_epoch trace }
 
 abbrev pub StartOf : RunHere → Type 0
-StartOf x = IsStart x.run.limits x.run.start x.run.origin
+StartOf x = IsStart x.run.limits x.run.start x.run.origin_epoch
 
 abbrev pub HasRun : RunHere → RunAnswer → Type 0
 HasRun x answer = IsSoloRun x.run x.disk0.moment x.acks x.disk0 x.disk x.out0 x.out answer
@@ -77,10 +77,10 @@ pub record IsQuiet (x : RunHere) : Type 0 where
 -- between two intervals, with this group and what is known of the disk, after so many turns
 pub record IsRunAtRest (x : RunHere) (g : Group) (k : KeptBlocks) (made : ℕ) : Type 0 where
   pub has : HasProgress g made 0 x.run.now
-  pub stands : IsTraceAtRest x.run.start x.run.origin x.run.limits x.run.trace x.run.now
+  pub stands : IsTraceAtRest x.run.start x.run.origin_epoch x.run.limits x.run.trace x.run.now
   pub last_is : x.run.now.state.standing.last ≡ k.epoch
   pub fetched_is : x.run.now.fetched ≡ k.epoch
-  pub begins : x.run.origin ≤ k.epoch
+  pub begins : x.run.origin_epoch ≤ k.epoch
   pub checkpointed : IsCheckpointed g
   pub position : last_position g.frame.out ≤ 2 ^ 62 + 1048576 * made
   pub epochs : k.epoch ≤ 2 ^ 62 + made
@@ -104,8 +104,8 @@ pub record IsRunAtRest (x : RunHere) (g : Group) (k : KeptBlocks) (made : ℕ) :
 rose_later : (a b c : ℕ) → a ≤ b → Rose b c → Rose a c
 rose_later a b c le rose = omega (arith, le, rose)
 
-pub answered : (x : RunHere) → StartOf x → (answer : RunAnswer) → IsSoloSoFar x.run.start x.run.origin x.run.limits x.run.trace → IsSafeHere x → ((answer ≡ DiskFault → ⊥) → IsQuiet x)
-    → EndsFor x.run x.disk0 x.disk x.out0 x.out answer → (EndsByItself answer → IsSoloTrace x.run.start x.run.origin x.run.limits x.run.trace) → HasRun x answer
+pub answered : (x : RunHere) → StartOf x → (answer : RunAnswer) → IsSoloSoFar x.run.start x.run.origin_epoch x.run.limits x.run.trace → IsSafeHere x → ((answer ≡ DiskFault → ⊥) → IsQuiet x)
+    → EndsFor x.run x.disk0 x.disk x.out0 x.out answer → (EndsByItself answer → IsSoloTrace x.run.start x.run.origin_epoch x.run.limits x.run.trace) → HasRun x answer
 answered x s answer so_far safe quiet ends whole = record {
   safe = record { legal = s.legal x.run.trace so_far; stands = safe; ends = ends };
   current = λ other. (quiet other).current;
@@ -120,7 +120,7 @@ abbrev pub here_longer : RunHere → List Mark → RunHere
 here_longer x more = record x { run = longer x.run more }
 
 module _ (x : RunHere) (s : StartOf x) (more : List Mark) (unacked : filter_map acked_epoch more ≡ []) (same : last_acked (longer x.run more) ≡ last_acked x.run)
-    (begins : x.run.origin ≤ x.run.now.fetched) (later : x.run.now.fetched ≤ (longer x.run more).now.fetched) where
+    (begins : x.run.origin_epoch ≤ x.run.now.fetched) (later : x.run.now.fetched ≤ (longer x.run more).now.fetched) where
   quiet_longer : IsQuiet x → (g : Group) → IsGroupOf x.run.now (last_acked x.run) g → Reached x.run x.out0 x.out g.frame.out.mark → IsReleasedInTime (longer x.run more) g.frame.out.mark → IsQuiet (here_longer x more)
   quiet_longer q g group_is reached prompt = record {
     safe = record {
@@ -144,11 +144,11 @@ module _ (x : RunHere) (s : StartOf x) (g : Group) (k : KeptBlocks) (made : ℕ)
   last_is_kept : last_acked x.run ≡ k.epoch
   last_is_kept = rest.stands.rests.acked ∙ rest.last_is
 
-  run_now : run_of x.run.limits x.run.start x.run.origin x.run.trace ≡ x.run
+  run_now : run_of x.run.limits x.run.start x.run.origin_epoch x.run.trace ≡ x.run
   run_now = ap (λ (r : Progress). record x.run { now = r }) rest.stands.stands
 
-  run_more : (more trace' : List Mark) → trace' ≡ x.run.trace ++ more → run_of x.run.limits x.run.start x.run.origin trace' ≡ longer x.run more
-  run_more more trace' is = run_longer x.run.limits x.run.start x.run.origin x.run.trace more trace' is ∙ ap (λ (r : RunSoFar). longer r more) run_now
+  run_more : (more trace' : List Mark) → trace' ≡ x.run.trace ++ more → run_of x.run.limits x.run.start x.run.origin_epoch trace' ≡ longer x.run more
+  run_more more trace' is = run_longer x.run.limits x.run.start x.run.origin_epoch x.run.trace more trace' is ∙ ap (λ (r : RunSoFar). longer r more) run_now
 
   told_now : (r : List ℕ) → x.disk0.reading ≡ Some r → (now : List ℕ) × (x.disk.reading ≡ Some now)
   told_now r told = (images_after rest.none_given_up.commits r, rest.none_given_up.reads ∙ ap (option_map (images_after rest.none_given_up.commits)) told)
@@ -177,7 +177,7 @@ module _ (x : RunHere) (s : StartOf x) (g : Group) (k : KeptBlocks) (made : ℕ)
   pub stopped : (trace' : List Mark) → StopsTurning x.run.limits x.run.trace trace' g made → HasRun (logged x trace') NoMemory
   stopped trace' stop =
       let q = quiet_turned stop.more stop.turns in
-      subst (λ (r : RunSoFar). HasRun (record x { run = r }) NoMemory) (sym (run_more stop.more trace' stop.trace_is)) (answered (here_longer x stop.more) s NoMemory (subst (IsSoloSoFar x.run.start x.run.origin x.run.limits) stop.trace_is (stop.so_far x.run.start x.run.origin x.run.now rest.stands rest.has)) q.safe (λ other. q) tt (λ e. absurd e))
+      subst (λ (r : RunSoFar). HasRun (record x { run = r }) NoMemory) (sym (run_more stop.more trace' stop.trace_is)) (answered (here_longer x stop.more) s NoMemory (subst (IsSoloSoFar x.run.start x.run.origin_epoch x.run.limits) stop.trace_is (stop.so_far x.run.start x.run.origin_epoch x.run.now rest.stands rest.has)) q.safe (λ other. q) tt (λ e. absurd e))
 
   -- ---- a barrier that is fetched
 
@@ -200,10 +200,10 @@ module _ (x : RunHere) (s : StartOf x) (g : Group) (k : KeptBlocks) (made : ℕ)
     same2 : longer x.run both ≡ x2.run
     same2 = sym (longer_twice x.run more commit_marks)
 
-    on : IsTraceAtRest x.run.start x.run.origin x.run.limits f.marks x1.run.now × HasProgress f.before (made + f.comes.since) f.comes.since x1.run.now
-    on = f.comes.turned.goes_on x.run.start x.run.origin x.run.now rest.stands rest.has
+    on : IsTraceAtRest x.run.start x.run.origin_epoch x.run.limits f.marks x1.run.now × HasProgress f.before (made + f.comes.since) f.comes.since x1.run.now
+    on = f.comes.turned.goes_on x.run.start x.run.origin_epoch x.run.now rest.stands rest.has
 
-    due : IsDue x.run.limits x1.run.now
+    due : HasBarrierCause x.run.limits x1.run.now
     due = f.comes.due x1.run.now on.1
 
     kept1 : KeepsEpochs x.run.now x1.run.now
@@ -215,11 +215,11 @@ module _ (x : RunHere) (s : StartOf x) (g : Group) (k : KeptBlocks) (made : ℕ)
     trace_is : trace' ≡ x2.run.trace
     trace_is = f.trace_is ∙ append_assoc f.marks (Barrier (k.epoch + 1) ∷ []) (Fetch (k.epoch + 1) ∷ []) ∙ ap (λ (l : List Mark). l ++ commit_marks) f.comes.turned.trace_is
 
-    run_fetched : run_of x.run.limits x.run.start x.run.origin trace' ≡ x2.run
+    run_fetched : run_of x.run.limits x.run.start x.run.origin_epoch trace' ≡ x2.run
     run_fetched = run_more both trace' (trace_is ∙ append_assoc x.run.trace more commit_marks) ∙ same2
 
-    so_far : IsSoloSoFar x.run.start x.run.origin x.run.limits x2.run.trace
-    so_far = subst (IsSoloSoFar x.run.start x.run.origin x.run.limits) (sym f.trace_is ∙ trace_is) (s.rests.fetch f.marks x1.run.now (k.epoch + 1) on.0 due next)
+    so_far : IsSoloSoFar x.run.start x.run.origin_epoch x.run.limits x2.run.trace
+    so_far = subst (IsSoloSoFar x.run.start x.run.origin_epoch x.run.limits) (sym f.trace_is ∙ trace_is) (s.rests.fetch f.marks x1.run.now (k.epoch + 1) on.0 due next)
 
     group_at : IsGroupOf x2.run.now (k.epoch + 1) g'
     group_at =
@@ -389,11 +389,11 @@ module _ (x : RunHere) (s : StartOf x) (g : Group) (k : KeptBlocks) (made : ℕ)
             none_given_up = committed;
           }
 
-      stands' : IsTraceAtRest x.run.start x.run.origin x.run.limits run3.trace run3.now
+      stands' : IsTraceAtRest x.run.start x.run.origin_epoch x.run.limits run3.trace run3.now
       unfolding run3
       stands' =
           let is : with_ack f.marks (k.epoch + 1) ≡ x2.run.trace ++ ack_marks = ap (λ (l : List Mark). l ++ ack_marks) (sym f.trace_is ∙ trace_is) in
-          subst (λ (l : List Mark). IsTraceAtRest x.run.start x.run.origin x.run.limits l run3.now) is (s.rests.commit f.marks x1.run.now (k.epoch + 1) on.0 due next)
+          subst (λ (l : List Mark). IsTraceAtRest x.run.start x.run.origin_epoch x.run.limits l run3.now) is (s.rests.commit f.marks x1.run.now (k.epoch + 1) on.0 due next)
 
       has' : HasProgress g' made' 0 run3.now
       unfolding run3
@@ -443,11 +443,11 @@ module _ (x : RunHere) (s : StartOf x) (g : Group) (k : KeptBlocks) (made : ℕ)
           (record { begun = inr (omega (arith, rest.covered.begun)); fetched = prompt.fetched })
 
       -- the log has it
-      as_logged : (P : RunSoFar → List AckMark → Type 0) → P run3 (x.acks ++ acked ∷ []) → P (run_of x.run.limits x.run.start x.run.origin trace'') acks'
+      as_logged : (P : RunSoFar → List AckMark → Type 0) → P run3 (x.acks ++ acked ∷ []) → P (run_of x.run.limits x.run.start x.run.origin_epoch trace'') acks'
       unfolding run3
       as_logged P p =
-          let is = run_longer x.run.limits x.run.start x.run.origin trace' ack_marks trace'' done.trace_is ∙ ap (λ (r : RunSoFar). longer r ack_marks) run_fetched in
-          subst (λ (a : List AckMark). P (run_of x.run.limits x.run.start x.run.origin trace'') a) (sym done.acks_is) (subst (λ (r : RunSoFar). P r (x.acks ++ acked ∷ [])) (sym is) p)
+          let is = run_longer x.run.limits x.run.start x.run.origin_epoch trace' ack_marks trace'' done.trace_is ∙ ap (λ (r : RunSoFar). longer r ack_marks) run_fetched in
+          subst (λ (a : List AckMark). P (run_of x.run.limits x.run.start x.run.origin_epoch trace'') a) (sym done.acks_is) (subst (λ (r : RunSoFar). P r (x.acks ++ acked ∷ [])) (sym is) p)
 
       -- the output failed
       pub unreleased : (out' : SinkView) → ReleasesPart g'.frame.out x.out out' → HasRun (record (logged x trace'') { acks = acks'; disk = disk'; out = out' }) SinkFault
@@ -530,10 +530,10 @@ module _ (x : RunHere) (s : StartOf x) (g : Group) (k : KeptBlocks) (made : ℕ)
         not_stuck = λ is. at_group (λ s. IsStuck s → ⊥) g x.run.now rest.has.group (λ standing. (e.1 standing).0) is;
       }
 
-      solo : IsDone x.run.now.state.group ⊎ (IsStuck x.run.now.state ⊎ IsSpent x.run.limits x.run.now) → IsSoloTrace x.run.start x.run.origin x.run.limits x.run.trace
+      solo : IsDone x.run.now.state.group ⊎ (IsStuck x.run.now.state ⊎ IsSpent x.run.limits x.run.now) → IsSoloTrace x.run.start x.run.origin_epoch x.run.limits x.run.trace
       solo end = record { so_far = rest.stands.so_far; ended = subst (λ (r : Progress). IsSettled r × (IsDone r.state.group ⊎ (IsStuck r.state ⊎ IsSpent x.run.limits r))) (sym rest.stands.stands) (settled, end) }
 
-      by_itself : (answer : RunAnswer) → EndsIn g answer → EndsByItself answer → IsSoloTrace x.run.start x.run.origin x.run.limits x.run.trace
+      by_itself : (answer : RunAnswer) → EndsIn g answer → EndsByItself answer → IsSoloTrace x.run.start x.run.origin_epoch x.run.limits x.run.trace
       by_itself Done e itself = solo (inl (done e))
       by_itself Stuck e itself = solo (inr (inl (stuck e)))
       by_itself Spent e itself = solo (inr (inr (spent e)))

@@ -15,7 +15,8 @@ use Rattle.run_defs.specs.declared.run.AckMark.{AckMark}
 use Rattle.run_defs.specs.declared.run.Limits.{Limits}
 use Rattle.run_defs.specs.declared.run.Mark.{Mark}
 use Rattle.run_defs.specs.declared.run.Mark.TheVariants.{Ack}
-use Rattle.run_laws.specs.AtRest.{EpochsHaveGroups, OutputHasParts}
+use Rattle.run_laws.specs.EpochGroups.{EpochsHaveGroups}
+use Rattle.run_laws.specs.OutputBetween.{OutputHasParts}
 use Rattle.ckpt_chain.specs.declared.slot.Slot.{Slot}
 use Rattle.ckpt_records.specs.Holds.{Holds, HoldsAt}
 use Rattle.ckpt_records.specs.Newest.{NewestCheckpoint, nothing, checkpoint, HasNewest, epoch_after}
@@ -47,7 +48,7 @@ pub record IsLastBarrier (run : RunSoFar) (acks : List AckMark) (epoch : ℕ) (g
   pub none_above : AllByRecursion (λ (a : AckMark). a.epoch ≤ epoch) acks
 
 abbrev pub IsNewestOfRun : RunSoFar → List AckMark → NewestCheckpoint → Type 0
-IsNewestOfRun run acks nothing = (run.origin ≡ 0) × (last_acked run ≡ 0) × (acks ≡ [])
+IsNewestOfRun run acks nothing = (run.origin_epoch ≡ 0) × (last_acked run ≡ 0) × (acks ≡ [])
 IsNewestOfRun run acks (checkpoint epoch g pages metas slot) = IsLastBarrier run acks epoch g
 
 -- the group of a barrier that a commit brings to the disk
@@ -55,7 +56,7 @@ pub record IsCommitting (run : RunSoFar) (epoch : ℕ) (h : Group) : Type 0 wher
   pub fetched : epoch ≤ run.now.fetched
   pub group_is : IsGroupOf run.now epoch h
 
-module _ (run : RunSoFar) (epochs : EpochsHaveGroups run.start run.origin run.limits) (more : List Mark) (later : run.now.fetched ≤ (longer run more).now.fetched) where
+module _ (run : RunSoFar) (epochs : EpochsHaveGroups run.start run.origin_epoch run.limits) (more : List Mark) (later : run.now.fetched ≤ (longer run more).now.fetched) where
   holds_longer : (image : List ℕ) (epoch : ℕ) → HoldsEpoch run image epoch → HoldsEpoch (longer run more) image epoch
   holds_longer image epoch h = record { fetched = omega (arith, h.fetched, later); group = h.group; group_is = epochs.later run.now more epoch h.group h.group_is; held = h.held }
 
@@ -196,7 +197,7 @@ acks_below run acks nothing by = subst (AllByRecursion (λ (a : AckMark). a.epoc
 acks_below run acks (checkpoint epoch g pages metas slot) by = each_weaker (λ (a : AckMark). a.epoch ≤ epoch) (λ (a : AckMark). a.epoch ≤ epoch + 1) acks (λ a le. omega (arith, le)) by.none_above
 
 -- the checkpoint that was committed is kept
-pub kept_acked : (run : RunSoFar) (epochs : EpochsHaveGroups run.start run.origin run.limits) (epoch at : ℕ) (acks : List AckMark) (h : Group) → IsCommitting run epoch h → AllByRecursion (λ (a : AckMark). a.epoch ≤ epoch) acks
+pub kept_acked : (run : RunSoFar) (epochs : EpochsHaveGroups run.start run.origin_epoch run.limits) (epoch at : ℕ) (acks : List AckMark) (h : Group) → IsCommitting run epoch h → AllByRecursion (λ (a : AckMark). a.epoch ≤ epoch) acks
     → IsLastBarrier (longer run (Ack epoch ∷ [])) (acks ++ record { epoch = epoch; at = at } ∷ []) epoch h
 kept_acked run epochs epoch at acks h c below = record {
   group_is = c.group_is;

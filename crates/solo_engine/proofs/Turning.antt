@@ -6,7 +6,7 @@ use Rattle.std.proofs.lemmas.List.Sums.{fold-append}
 use Rattle.group_defs.specs.Group.{Group}
 use Rattle.group_defs.specs.Output.{last_position}
 use Rattle.group_defs.specs.Standing.{Standing, State}
-use Rattle.run_defs.specs.Legal.{IsDue, next_pid, ready}
+use Rattle.run_defs.specs.Legal.{HasBarrierCause, next_pid, ready}
 use Rattle.run_defs.specs.Marks.{acked_epoch}
 use Rattle.run_defs.specs.Progress.{Progress, after_mark, progress_after}
 use Rattle.run_defs.specs.Solo.{IsSoloSoFar}
@@ -15,7 +15,7 @@ use Rattle.run_defs.specs.declared.run.Limits.{Limits}
 use Rattle.run_defs.specs.declared.run.Mark.{Mark}
 use Rattle.run_defs.specs.declared.run.Mark.TheVariants.{Take, Turn, Barrier, Fetch, Ack}
 use Rattle.run_laws.proofs.TurnLaws.{turn_epochs}
-use Rattle.run_laws.specs.AtRest.{IsNextTurn, IsTraceAtRest, RestsFollow, with_turn}
+use Rattle.run_laws.specs.Rests.{IsNextTurn, IsTraceAtRest, RestsFollow, with_turn}
 use Rattle.solo_engine.specs.Interval.{ComesToBarrier, HasProgress, HasTurned, IsNoneReady, IsOfTurn, IsOneReady, StopsTurning}
 use Rattle.tables.proofs.Ordered.{each_append}
 
@@ -77,8 +77,8 @@ module _ (rests : (start : Group) (origin : ℕ) (limits : Limits) → RestsFoll
     is_next : (r : Progress) → HasProgress h (made + since) since r → IsNextTurn limits r pid
     is_next r has = record {
       next = ap (next_pid r.taken) (at_group (λ s. ready s ≡ pid ∷ []) h r has.group one) ∙ next_by r.taken pid (nat_lt r.taken pid) refl;
-      short = omega (arith, short, has.since_is);
-      few = omega (arith, few, has.made_is);
+      interval = omega (arith, short, has.since_is);
+      turns = omega (arith, few, has.made_is);
     }
 
     -- memory ran out behind a Take
@@ -133,7 +133,7 @@ comes limits trace now g h made n since t is some cause = record {
   due = λ r has. record { turn = omega (arith, some, has.since_is); cause = why r has cause };
 }
   where
-    why : (r : Progress) → HasProgress h (made + since) since r → (since ≡ limits.every) ⊎ ((n ≡ limits.turns) ⊎ IsNoneReady h) → (r.since ≡ limits.every) ⊎ ((r.turns ≡ limits.turns) ⊎ (ready r.state ≡ []))
+    why : (r : Progress) → HasProgress h (made + since) since r → (since ≡ limits.every) ⊎ ((n ≡ limits.turns) ⊎ IsNoneReady h) → (r.turns_since ≡ limits.every) ⊎ ((r.turns ≡ limits.turns) ⊎ (ready r.state ≡ []))
     why r has (inl every) = inl (has.since_is ∙ every)
     why r has (inr (inl all)) = inr (inl (has.made_is ∙ sym is ∙ all))
     why r has (inr (inr none)) = inr (inr (at_group (λ s. ready s ≡ []) h r has.group none))

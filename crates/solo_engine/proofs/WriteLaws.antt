@@ -12,7 +12,7 @@ use Rattle.run_defs.specs.Progress.{IsGroupOf, group_of_epoch}
 use Rattle.run_defs.specs.declared.run.AckMark.{AckMark}
 use Rattle.run_defs.specs.declared.run.Mark.{Mark}
 use Rattle.run_defs.specs.declared.run.Mark.TheVariants.{Barrier, Fetch}
-use Rattle.run_laws.specs.AtRest.{EpochsHaveGroups}
+use Rattle.run_laws.specs.EpochGroups.{EpochsHaveGroups}
 use Rattle.ckpt_records.specs.Cost.{calls_for, cost_of}
 use Rattle.commit_gate.proofs.Phases.{calls_then}
 use Rattle.commit_gate.specs.Whole.{AddsCommit, Reads, UpTo, calls_more, closing, write_calls}
@@ -49,7 +49,7 @@ sums_rise : (f g : ℕ → ℕ) (es : List ℕ) → ((e : ℕ) → f e ≤ g e) 
 sums_rise f g [] rise = omega arith
 sums_rise f g (e ∷ es) rise = omega (arith, sum_by-cons f e es, sum_by-cons g e es, rise e, sums_rise f g es rise)
 
-module _ (run : RunSoFar) (epochs : EpochsHaveGroups run.start run.origin run.limits) where
+module _ (run : RunSoFar) (epochs : EpochsHaveGroups run.start run.origin_epoch run.limits) where
   calls_rise : (more : List Mark) (epoch : ℕ) → calls_of_epoch run epoch ≤ calls_of_epoch (longer run more) epoch
   calls_rise more epoch = by_group (group_of_epoch run.now epoch) refl
     where

@@ -16,10 +16,12 @@ use Rattle.run_defs.specs.declared.run.Limits.{Limits}
 use Rattle.run_defs.specs.declared.run.Mark.{Mark}
 use Rattle.run_defs.specs.declared.run.Mark.TheVariants.{Take, Turn, Ack}
 use Rattle.run_defs.specs.Ends.{IsDone, IsStuck}
-use Rattle.run_defs.specs.Legal.{IsDue, Legal, ready}
+use Rattle.run_defs.specs.Legal.{HasBarrierCause, Legal, ready}
 use Rattle.run_defs.specs.Progress.{Progress, progress_after}
 use Rattle.run_defs.specs.Solo.{IsSoloPrefix, IsSoloSoFar}
-use Rattle.run_laws.specs.AtRest.{BarriersLetOut, EpochsHaveGroups, IsTraceAtRest, OutputHasParts, RestsFollow, with_fetched}
+use Rattle.run_laws.specs.EpochGroups.{EpochsHaveGroups}
+use Rattle.run_laws.specs.OutputBetween.{BarriersLetOut, OutputHasParts}
+use Rattle.run_laws.specs.Rests.{IsTraceAtRest, RestsFollow, with_fetched}
 use Rattle.ckpt_chain.specs.declared.slot.SlotBody.{SlotBody}
 use Rattle.ckpt_records.specs.Cost.{calls_for, cost_of}
 use Rattle.ckpt_records.specs.Holds.{IsCheckpointed}
@@ -44,7 +46,7 @@ IsOfTurn m = ⊥
 pub record HasProgress (g : Group) (made since : ℕ) (r : Progress) : Type 0 where
   pub group : r.state.group ≡ g
   pub made_is : r.turns ≡ made
-  pub since_is : r.since ≡ since
+  pub since_is : r.turns_since ≡ since
 
 -- One process of the group is ready, or none, whatever stands beside it.
 abbrev pub IsOneReady : Group → ℕ → Type 0
@@ -81,7 +83,7 @@ pub record ComesToBarrier (limits : Limits) (trace trace' : List Mark) (g g' : G
   pub some : 0 < since
   pub made_is : made' ≡ made + since
   pub turned : HasTurned limits trace trace' g g' made since
-  pub due : (r : Progress) → HasProgress g' (made + since) since r → IsDue limits r
+  pub due : (r : Progress) → HasProgress g' (made + since) since r → HasBarrierCause limits r
 
 -- The barrier after this epoch, and its fetch.
 pub record IsFetched (limits : Limits) (epoch : ℕ) (trace trace' : List Mark) (g g' : Group) (made made' : ℕ) : Type 0 where
