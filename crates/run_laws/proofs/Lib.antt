@@ -14,3 +14,4 @@ pub mod PageLaws
 pub mod Runs
 pub mod CountLaws
 pub mod MovedLaws
+pub mod LeaseLaws

@@ -17,7 +17,7 @@ each_found P t (x ∷ xs) y all e = by_test (t x) (each_found P t xs y all.1) e
     by_test true rest e = let same : x ≡ y = cc in subst P same all.0
     by_test false rest e = rest e
 
-each_next : (P : ℕ → Type 0) (last : ℕ) (xs : List ℕ) (y : ℕ) → AllByRecursion P xs → next_pid last xs ≡ Some y → P y
+pub each_next : (P : ℕ → Type 0) (last : ℕ) (xs : List ℕ) (y : ℕ) → AllByRecursion P xs → next_pid last xs ≡ Some y → P y
 each_next P last [] y all e = absurd (cc)
 each_next P last (x ∷ xs) y all e = by_found (find (nat_lt last) (x ∷ xs)) refl e
   where

@@ -24,7 +24,7 @@ use Rattle.run_defs.specs.declared.run.Mark.{Mark}
 use Rattle.run_defs.specs.declared.run.Mark.TheVariants.{Take, Turn, Barrier, Fetch, Ack}
 
 -- valid, and at most k steps behind a place where a run may begin
-record IsAfter (k : ℕ) (g : Group) : Type 0 where
+pub record IsAfter (k : ℕ) (g : Group) : Type 0 where
   pub valid : GroupIsValid g
   pub object : g.frame.next.object ≤ 2 ^ 62 + 4096 * k
   pub descr : g.frame.next.descr ≤ 2 ^ 62 + 2 * k
@@ -32,7 +32,7 @@ record IsAfter (k : ℕ) (g : Group) : Type 0 where
   pub pair : g.frame.next.pair ≤ 2 ^ 62 + k
   pub position : last_position g.frame.out ≤ 2 ^ 62 + 1048576 * k
 
-origin_after : (g : Group) → GroupIsValid g → HasUnwornNumbers g.frame → IsAfter 0 g
+pub origin_after : (g : Group) → GroupIsValid g → HasUnwornNumbers g.frame → IsAfter 0 g
 origin_after g v o =
     let a = o.object in let b = o.descr in let c = o.pipe in let d = o.pair in let e = o.position in
     record { valid = v; object = omega (arith, a); descr = omega (arith, b); pipe = omega (arith, c); pair = omega (arith, d); position = omega (arith, e) }
@@ -61,14 +61,14 @@ step_after k s pid few at =
       position = omega (arith, e, e');
     }
 
-steps_after : (k : ℕ) (s : State) (pid n : ℕ) → k + n ≤ 200000000000 → IsAfter k s.group → IsAfter (k + n) (steps_of s pid n).group
+pub steps_after : (k : ℕ) (s : State) (pid n : ℕ) → k + n ≤ 200000000000 → IsAfter k s.group → IsAfter (k + n) (steps_of s pid n).group
 unfolding steps_of
 steps_after k s pid zero few at = later k (k + 0) s.group (omega arith) at
 steps_after k s pid (suc n) few at =
     later (k + n + 1) (k + suc n) (do_step (steps_of s pid n) pid).group (omega arith)
     (step_after (k + n) (steps_of s pid n) pid (omega (arith, few)) (steps_after k s pid n (omega (arith, few)) at))
 
-steps_few : (quantum n : ℕ) → n ≤ quantum → steps_in quantum n ≤ quantum
+pub steps_few : (quantum n : ℕ) → n ≤ quantum → steps_in quantum n ≤ quantum
 steps_few quantum n le = by_test (n == quantum) refl
   where
     by_test : (b : Bool) → (n == quantum) ≡ b → (if b then n else suc n) ≤ quantum
@@ -77,13 +77,13 @@ steps_few quantum n le = by_test (n == quantum) refl
 
 -- The law over a legal run, each front of which is one.
 module _ (limits : Limits) (origin : ℕ) (small : LimitsFit limits) where
-  abbrev IsGood : Progress → Type 0
+  abbrev pub IsGood : Progress → Type 0
   IsGood r = IsInOrder limits origin r × IsAfter (100000 * r.turns) r.state.group
 
-  few_turns : (r : Progress) → IsInOrder limits origin r → 100000 * r.turns ≤ 100000000000
+  pub few_turns : (r : Progress) → IsInOrder limits origin r → 100000 * r.turns ≤ 100000000000
   few_turns r o = let most = small.turns.1 in let turns = o.turns in omega (arith, most, turns)
 
-  good_kept : (r : Progress) (m : Mark) → Allowed limits r m → IsGood r → IsGood (after_mark limits.quantum r m)
+  pub good_kept : (r : Progress) (m : Mark) → Allowed limits r m → IsGood r → IsGood (after_mark limits.quantum r m)
   good_kept r (Take worker pid) a (o, at) = (order_kept limits origin r (Take worker pid) a o, at)
   good_kept r (Turn worker pid n) a (o, at) =
       let few = few_turns r o in let quantum = small.quantum.1 in let less = steps_few limits.quantum n a.turn.within in

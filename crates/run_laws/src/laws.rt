@@ -23,6 +23,7 @@ ghost use Rattle.run_defs.specs.Ends.{HasEnded, IsDone};
 ghost use Rattle.run_defs.specs.Legal.{AckAllowed, Allowed, FetchAllowed, Legal, has_moved, ready};
 ghost use Rattle.run_defs.specs.Limits.{LimitsFit};
 ghost use Rattle.run_defs.specs.Progress.{Progress, after_mark, appended, checkpoint, checkpoint_of, group_of_epoch, is_lease, progress_after, progress_at};
+ghost use Rattle.run_laws.specs.Leases.{AreApart, AreOfRunning};
 ghost use Rattle.run_laws.specs.Order.{IsInOrder, Follows};
 ghost use Rattle.run_laws.specs.Smallest.{default_limits, exits_at_once, exit_trace, says_hi, hi_trace, asks_in_vain, family, family_left};
 ghost use Rattle.run_defs.specs.Solo.{IsSoloPrefix, IsSoloSoFar, IsSoloTrace};
@@ -252,6 +253,19 @@ pub fn first_checkpoint_has_all()
         → (page : ℕ × ℕ) → let r = progress_after quantum (progress_at 0 start) marks in
         is_among (nonzero_pages r.state.group) page ≡ true
         → is_among (checkpoint r epoch).touched page ≡ true }
+{}
+
+/// After a legal trace no worker has two leases and no process has, and where the group was valid and isn't worn each lease
+/// is of a running process.
+pub fn leases_are_apart()
+    ensures apart { (start : Group) (origin_epoch : ℕ) (limits : Limits) (marks : List Mark)
+        → Legal start origin_epoch limits marks
+        → AreApart (progress_after limits.quantum (progress_at origin_epoch start) marks).leases }
+    ensures running { (limits : Limits) (origin_epoch : ℕ) (start : Group) (marks : List Mark)
+        → LimitsFit limits
+        → GroupIsValid start → HasUnwornNumbers start.frame → Legal start origin_epoch limits marks
+        → let r = progress_after limits.quantum (progress_at origin_epoch start) marks in
+        AreOfRunning r.state.group r.leases }
 {}
 
 /// A legal run from a valid group that isn't worn keeps it valid, and its numbers far from their types' ends: after each
