@@ -5,6 +5,7 @@ use Rattle.group_defs.specs.Output.{last_position, out_after_barrier}
 use Rattle.group_defs.specs.Standing.{State, acknowledged, barrier}
 use Rattle.group_defs.specs.Valid.{GroupIsValid, OutSound, OutValid}
 use Rattle.group_defs.specs.declared.frame.Out.{Out}
+use Rattle.group_laws.proofs.PartLaws.{out_valid}
 use Rattle.lists.specs.Bytes.{AreBytes}
 
 module _ (out : Out) (s : OutSound out) where
@@ -19,12 +20,7 @@ module _ (out : Out) (s : OutSound out) where
       record { positions = (last, omega (arith, same), omega (arith, same, end), new, omega (arith, same)); bytes = All-drop (λ b. b < 256) (out.mark - out.from) out.bytes s.bytes }
 
 pub barrier_valid : (s : State) (epoch : ℕ) → GroupIsValid s.group → GroupIsValid (barrier s epoch).group
-barrier_valid s epoch v =
-    let x = v.sound in
-    record {
-      sound = record { frame = record { procs = x.frame.procs; maps = x.frame.maps; names = x.frame.names; opens = x.frame.opens; pipes = x.frame.pipes; pairs = x.frame.pairs; objects = x.frame.objects; files = x.frame.files; out = barrier_out s.group.frame.out x.frame.out; next = x.frame.next }; memory = x.memory };
-      held = record { opens = v.held.opens; objects = v.held.objects; pipes = v.held.pipes; pairs = v.held.pairs };
-    }
+barrier_valid s epoch v = out_valid s.group (out_after_barrier s.group.frame.out) (barrier_out s.group.frame.out v.sound.frame.out) v
 
 pub acknowledged_valid : (s : State) (epoch : ℕ) → GroupIsValid s.group → GroupIsValid (acknowledged s epoch).group
 acknowledged_valid s epoch v = v

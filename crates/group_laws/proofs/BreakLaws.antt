@@ -25,6 +25,7 @@ use Rattle.group_laws.proofs.CallerLaws.{CallerFits, KeepsName, caller_fits, cal
 use Rattle.group_laws.proofs.DescriptorCallLaws.{if_keeps, nothing_stored}
 use Rattle.group_laws.proofs.Lists.{on_first_list_any}
 use Rattle.group_laws.proofs.MmapLaws.{mapped_keeps, mapping_is, own_pieces, room_is, untouched}
+use Rattle.group_laws.proofs.PartLaws.{procs_sound}
 use Rattle.group_laws.proofs.ReplyLaws.{Keeps, ReplyKeeps, changed_runs, maps_no_file, same_keeps, settled_files, settled_procs}
 use Rattle.group_laws.proofs.SettledLaws.{settled_valid}
 use Rattle.group_laws.proofs.StoreLaws.{NoFile}
@@ -41,21 +42,8 @@ module _ (h : Group) (q : Proc) (found : find (is_runner q.pid) h.frame.procs �
       let names : KeepsName f = record { pid = λ x. refl; parent = λ x. refl; state = λ x. refl } in
       let old : CallerFits q = caller_fits h.frame.next.pid q.pid h.frame.procs q refl found s.frame.procs in
       let new : CallerFits (f q) = record { fits = old.fits; own = old.own; regs = old.regs; placed = old.placed; apart = old.apart; pc = old.pc; break = (old.break.0, low, high) } in
-      record {
-        frame = record {
-          procs = caller_procs q.pid f names h.frame.procs h.frame.next.pid q refl found new s.frame.procs;
-          maps = caller_maps q.pid f names h.frame.procs (λ x. refl) h.frame.objects h.frame.files s.frame.maps;
-          names = caller_names q.pid f names h.frame.procs h.frame.pairs h.frame.opens (λ x e old. old) s.frame.names;
-          opens = s.frame.opens;
-          pipes = s.frame.pipes;
-          pairs = s.frame.pairs;
-          objects = s.frame.objects;
-          files = s.frame.files;
-          out = s.frame.out;
-          next = s.frame.next;
-        };
-        memory = s.memory;
-      }
+      procs_sound h (on_first (is_runner q.pid) f h.frame.procs) (caller_procs q.pid f names h.frame.procs h.frame.next.pid q refl found new s.frame.procs)
+      (caller_maps q.pid f names h.frame.procs (λ x. refl) h.frame.objects h.frame.files s.frame.maps) (caller_names q.pid f names h.frame.procs h.frame.pairs h.frame.opens (λ x e old. old) s.frame.names) s
 
   pub break_held : AllHeld h.frame → AllHeld (with_break h q addr).frame
   unfolding maps_object

@@ -28,6 +28,7 @@ use Rattle.pipes_socks.specs.declared.streams.Pair.{Pair}
 use Rattle.rv64_isa.specs.declared.regs.Regs.{Regs}
 use Rattle.tables.specs.Lists.{on_first}
 use Rattle.group_laws.proofs.Lists.{any_true, any_weaker, found_all, on_first_all, on_first_any, on_first_count, on_first_length, on_first_list_any, on_first_rise, true_any}
+use Rattle.group_laws.proofs.PartLaws.{procs_sound}
 use Rattle.group_laws.proofs.EndingLaws.{found_runs}
 use Rattle.group_laws.proofs.SettledLaws.{equal, or_right}
 
@@ -215,21 +216,9 @@ continued_valid g p r fit found v =
     let old : CallerFits p = caller_fits g.frame.next.pid p.pid g.frame.procs p refl found s.frame.procs in
     let new : CallerFits (with_regs r p) = record { fits = old.fits; own = old.own; regs = (fit.pc, fit.count, fit.values); placed = old.placed; apart = old.apart; pc = fit.aligned; break = old.break } in
     record {
-      sound = record {
-        frame = record {
-          procs = caller_procs p.pid (with_regs r) names g.frame.procs g.frame.next.pid p refl found new s.frame.procs;
-          maps = caller_maps p.pid (with_regs r) names g.frame.procs (λ q. refl) g.frame.objects g.frame.files s.frame.maps;
-          names = caller_names p.pid (with_regs r) names g.frame.procs g.frame.pairs g.frame.opens (λ q e old. old) s.frame.names;
-          opens = s.frame.opens;
-          pipes = s.frame.pipes;
-          pairs = s.frame.pairs;
-          objects = s.frame.objects;
-          files = s.frame.files;
-          out = s.frame.out;
-          next = s.frame.next;
-        };
-        memory = s.memory;
-      };
+      sound =
+          procs_sound g (on_first (is_runner p.pid) (with_regs r) g.frame.procs) (caller_procs p.pid (with_regs r) names g.frame.procs g.frame.next.pid p refl found new s.frame.procs)
+          (caller_maps p.pid (with_regs r) names g.frame.procs (λ q. refl) g.frame.objects g.frame.files s.frame.maps) (caller_names p.pid (with_regs r) names g.frame.procs g.frame.pairs g.frame.opens (λ q e old. old) s.frame.names) s;
       held = held_grows g (on_first (is_runner p.pid) (with_regs r) g.frame.procs) (λ n at. any_same (is_runner p.pid) (with_regs r) (is_at n) (λ q. refl) g.frame.procs at) (λ n maps. any_same (is_runner p.pid) (with_regs r) (maps_object n) (λ q. refl) g.frame.procs maps) v.held;
     }
 
@@ -245,21 +234,8 @@ module _ (g : Group) (p : Proc) (fds : List (ℕ × ℕ)) (found : find (is_runn
       let names : KeepsName f = record { pid = λ q. refl; parent = λ q. refl; state = λ q. refl } in
       let old : CallerFits p = caller_fits g.frame.next.pid p.pid g.frame.procs p refl found s.frame.procs in
       let new : CallerFits (f p) = record { fits = (old.fits.0, old.fits.1, fit.small); own = (old.own.0, fit.rise); regs = old.regs; placed = old.placed; apart = old.apart; pc = old.pc; break = old.break } in
-      record {
-        frame = record {
-          procs = caller_procs p.pid f names g.frame.procs g.frame.next.pid p refl found new s.frame.procs;
-          maps = caller_maps p.pid f names g.frame.procs (λ q. refl) g.frame.objects g.frame.files s.frame.maps;
-          names = caller_names p.pid f names g.frame.procs g.frame.pairs g.frame.opens (λ q e old. there) s.frame.names;
-          opens = s.frame.opens;
-          pipes = s.frame.pipes;
-          pairs = s.frame.pairs;
-          objects = s.frame.objects;
-          files = s.frame.files;
-          out = s.frame.out;
-          next = s.frame.next;
-        };
-        memory = s.memory;
-      }
+      procs_sound g (on_first (is_runner p.pid) f g.frame.procs) (caller_procs p.pid f names g.frame.procs g.frame.next.pid p refl found new s.frame.procs)
+      (caller_maps p.pid f names g.frame.procs (λ q. refl) g.frame.objects g.frame.files s.frame.maps) (caller_names p.pid f names g.frame.procs g.frame.pairs g.frame.opens (λ q e old. there) s.frame.names) s
 
   pub at_stays : ((n : ℕ) → Any (λ d. d.1 ≡ n) p.fds → Any (λ d. d.1 ≡ n) fds) → (n : ℕ) → list_any (is_at n) g.frame.procs ≡ true → list_any (is_at n) (on_first (is_runner p.pid) f g.frame.procs) ≡ true
   at_stays more n e = true_any (is_at n) (on_first (is_runner p.pid) f g.frame.procs) (on_first_any (is_runner p.pid) f (λ q. is_at n q ≡ true) g.frame.procs still (any_true (is_at n) g.frame.procs e))

@@ -25,6 +25,7 @@ use Rattle.descriptors.specs.declared.opens.Open.{Open}
 use Rattle.pipes_socks.specs.declared.streams.Pair.{Pair}
 use Rattle.tables.specs.Rising.{Rise}
 use Rattle.group_laws.proofs.Lists.{all_filter_map, any_filter_map, count_filter_map, found_all, found_is, length_filter_map, rise_filter_map}
+use Rattle.group_laws.proofs.PartLaws.{procs_sound}
 use Rattle.group_laws.proofs.SettledLaws.{settled_valid}
 
 -- who is found runs
@@ -178,18 +179,5 @@ module _ (procs : List Proc) (p : Proc) (status : ℕ) where
 pub ended_valid : (g : Group) (p : Proc) (status : ℕ) → GroupIsSound g → find (is_runner p.pid) g.frame.procs ≡ Some p → IsWaitStatus status → GroupIsValid (ended g p status)
 unfolding ended
 ended_valid g p status s found wait =
-    settled_valid _ (record {
-      frame = record {
-        procs = procs_left g.frame.procs p status g.frame.next.pid found wait s.frame.procs;
-        maps = maps_left g.frame.procs p status g.frame.objects g.frame.files s.frame.maps;
-        names = names_left g.frame.procs p status g.frame.pairs g.frame.opens s.frame.names;
-        opens = s.frame.opens;
-        pipes = s.frame.pipes;
-        pairs = s.frame.pairs;
-        objects = s.frame.objects;
-        files = s.frame.files;
-        out = s.frame.out;
-        next = s.frame.next;
-      };
-      memory = s.memory;
-    })
+    settled_valid _ (procs_sound g (filter_map (after_end p status) g.frame.procs) (procs_left g.frame.procs p status g.frame.next.pid found wait s.frame.procs)
+    (maps_left g.frame.procs p status g.frame.objects g.frame.files s.frame.maps) (names_left g.frame.procs p status g.frame.pairs g.frame.opens s.frame.names) s)

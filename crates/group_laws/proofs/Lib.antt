@@ -1,4 +1,5 @@
 pub mod Lists
+pub mod PartLaws
 pub mod SettledLaws
 pub mod EndingLaws
 pub mod CallerLaws

@@ -25,6 +25,7 @@ use Rattle.group_defs.specs.declared.frame.Proc.{Proc}
 use Rattle.tables.specs.Lists.{on_first}
 use Rattle.group_laws.proofs.CallerLaws.{CallerFits, KeepsName, caller_fits, caller_names, caller_procs}
 use Rattle.group_laws.proofs.Lists.{all_flat_map, any_all, any_at, any_true, any_weaker, found_all, on_first_all, on_first_count_le, on_first_count_one, true_any}
+use Rattle.group_laws.proofs.PartLaws.{procs_sound}
 use Rattle.group_laws.proofs.SettledLaws.{equal}
 
 -- a piece of a mapping: the same object, sharing and rights, and no other pages
@@ -169,18 +170,5 @@ module _ (g : Group) (p : Proc) (found : find (is_runner p.pid) g.frame.procs �
       let old : CallerFits p = caller_fits g.frame.next.pid p.pid g.frame.procs p refl found s.frame.procs in
       let placed : All IsUserMapping ms = λ k d lt. let m = are.each k d lt in let right = rights k d lt in (m.0, m.1, m.2, m.3, right) in
       let new : CallerFits (f p) = record { fits = (old.fits.0, are.count, old.fits.2); own = (rise_from_apart ms are.each are.apart, old.own.1); regs = old.regs; placed = placed; apart = are.apart; pc = old.pc; break = old.break } in
-      record {
-        frame = record {
-          procs = caller_procs p.pid f names g.frame.procs g.frame.next.pid p refl found new s.frame.procs;
-          maps = maps_after inside no_file s.frame.maps;
-          names = caller_names p.pid f names g.frame.procs g.frame.pairs g.frame.opens (λ q e old. old) s.frame.names;
-          opens = s.frame.opens;
-          pipes = s.frame.pipes;
-          pairs = s.frame.pairs;
-          objects = s.frame.objects;
-          files = s.frame.files;
-          out = s.frame.out;
-          next = s.frame.next;
-        };
-        memory = s.memory;
-      }
+      procs_sound g after (caller_procs p.pid f names g.frame.procs g.frame.next.pid p refl found new s.frame.procs) (maps_after inside no_file s.frame.maps)
+      (caller_names p.pid f names g.frame.procs g.frame.pairs g.frame.opens (λ q e old. old) s.frame.names) s

@@ -4,7 +4,6 @@ use Rattle.std.specs.Prelude.{All, Any, find}
 use Rattle.std.proofs.lemmas.Bool.{both_ways, not-false}
 use Rattle.std.proofs.lemmas.List.{length-append, length-drop}
 use Rattle.descriptors.specs.EntryLaws.{entry_has}
-use Rattle.descriptors.specs.declared.opens.Open.{Open}
 use Rattle.descriptors.specs.declared.opens.OpenKind.{OpenKind}
 use Rattle.descriptors.specs.declared.opens.OpenKind.TheVariants as kinds
 use Rattle.group_defs.specs.Calls.{stores}
@@ -13,10 +12,10 @@ use Rattle.group_defs.specs.Changes.{with_pipes}
 use Rattle.group_defs.specs.Group.{Group, is_runner}
 use Rattle.group_defs.specs.Held.{has_reader, has_writer}
 use Rattle.lists.specs.Bytes.{AreBytes}
-use Rattle.group_defs.specs.Output.{last_position, room}
+use Rattle.group_defs.specs.Output.{last_position, room, with_output}
 use Rattle.group_defs.specs.PipeCalls.{pipe_room, push, read_pipe, write_pipe}
 use Rattle.group_defs.specs.ReadWrite.{put_outside, write_outside}
-use Rattle.group_defs.specs.Streams.{PipeEndsOnce, reads_pipe}
+use Rattle.group_defs.specs.Streams.{PipeEndsOnce}
 use Rattle.group_defs.specs.Valid.{GroupIsValid, OutValid, PipeHeld, TargetIsThere}
 use Rattle.group_defs.specs.declared.frame.Proc.{Proc}
 use Rattle.pipes_socks.specs.Pipes.{pipe_bytes, pipe_of, waits_for_room, with_pipe_bytes}
@@ -24,7 +23,8 @@ use Rattle.pipes_socks.specs.declared.streams.Pipe.{Pipe}
 use Rattle.rv64_isa.specs.Memory.{Write, can_write, readable}
 use Rattle.group_laws.proofs.ByteLaws.{append_fit, drop_fit, one_store, read_fits, take_fit}
 use Rattle.group_laws.proofs.DescriptorCallLaws.{if_keeps, nothing_stored}
-use Rattle.group_laws.proofs.Lists.{any_true, any_weaker, found_all, on_first_all, on_first_any, on_first_length, on_first_rise, true_any}
+use Rattle.group_laws.proofs.Lists.{found_all, on_first_all, on_first_any, on_first_length, on_first_rise}
+use Rattle.group_laws.proofs.PartLaws.{out_valid}
 use Rattle.group_laws.proofs.ReplyLaws.{Keeps, ReplyKeeps, maps_no_file, same_keeps}
 
 -- the target of a description stays where its pipe does
@@ -136,24 +136,9 @@ module _ (g : Group) (p : Proc) (found : find (is_runner p.pid) g.frame.procs â‰
           let size = length-append g.frame.out.bytes bytes in
           record {
             value_fits = omega (arith, count, new);
-            valid = record {
-              sound = record {
-                frame = record {
-                  procs = s.frame.procs;
-                  maps = s.frame.maps;
-                  names = s.frame.names;
-                  opens = s.frame.opens;
-                  pipes = s.frame.pipes;
-                  pairs = s.frame.pairs;
-                  objects = s.frame.objects;
-                  files = s.frame.files;
-                  out = record { positions = (first, omega (arith, second, size), omega (arith, low, size, count, new), kept, omega (arith, size, count, new)); bytes = append_fit g.frame.out.bytes bytes s.frame.out.bytes is.fit };
-                  next = s.frame.next;
-                };
-                memory = s.memory;
-              };
-              held = record { opens = v.held.opens; objects = v.held.objects; pipes = v.held.pipes; pairs = v.held.pairs };
-            };
+            valid =
+                out_valid g (with_output g.frame.out bytes)
+                (record { positions = (first, omega (arith, second, size), omega (arith, low, size, count, new), kept, omega (arith, size, count, new)); bytes = append_fit g.frame.out.bytes bytes s.frame.out.bytes is.fit }) v;
             caller = p;
             runs = found;
             bytes = nothing_stored;

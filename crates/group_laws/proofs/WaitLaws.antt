@@ -29,6 +29,7 @@ use Rattle.rv64_isa.specs.declared.regs.Regs.{Regs}
 use Rattle.group_laws.proofs.CallerLaws.{held_grows}
 use Rattle.group_laws.proofs.DescriptorCallLaws.{if_keeps, nothing_stored}
 use Rattle.group_laws.proofs.Lists.{any_all, any_at, any_filter, any_true, any_weaker, count_filter, found_all, found_is, length_filter, true_any}
+use Rattle.group_laws.proofs.PartLaws.{procs_sound}
 use Rattle.group_laws.proofs.ReplyLaws.{Keeps, ReplyKeeps, maps_no_file, same_keeps}
 use Rattle.group_laws.proofs.SettledLaws.{rise_filter, rise_unique}
 use Rattle.group_laws.proofs.EndingLaws.{found_runs}
@@ -102,9 +103,8 @@ module _ (g : Group) (pid : ℕ) (v : GroupIsValid g) (gone : All (λ q. (q.pid 
       let s = v.sound in
       let procs = g.frame.procs in
       record {
-        sound = record {
-          frame = record {
-            procs = record {
+        sound =
+            procs_sound g left (record {
               count = let less = length_filter stays procs in let old = s.frame.procs.count in omega (arith, less, old);
               rise = rise_filter (λ q. q.pid) stays procs s.frame.procs.rise;
               below = All-filter stays (λ q. q.pid < g.frame.next.pid) procs s.frame.procs.below;
@@ -114,23 +114,11 @@ module _ (g : Group) (pid : ℕ) (v : GroupIsValid g) (gone : All (λ q. (q.pid 
               placed = All-filter stays (λ q. All IsUserMapping q.maps) procs s.frame.procs.placed;
               apart = All-filter stays (λ q. AreApart q.maps) procs s.frame.procs.apart;
               states = All-filter stays (ProcValid left) procs (All-weaker (ProcValid procs) (ProcValid left) state_stays procs s.frame.procs.states);
-            };
-            maps = record {
+            }) (record {
               inside = All-filter stays (λ q. All (IsInside g.frame.objects) q.maps) procs s.frame.maps.inside;
               agree = All-weaker (λ o. (is_of_file g.frame.files o.number ≡ true) ⊎ IsMemoryObject procs o) (λ o. (is_of_file g.frame.files o.number ≡ true) ⊎ IsMemoryObject left o) object_stays g.frame.objects s.frame.maps.agree;
               unmapped = λ k d lt. let none = s.frame.maps.unmapped k d lt in let le = fewer (get_or g.frame.files k d).object in omega (arith, none, le);
-            };
-            names = record { fds = All-filter stays (DescriptorsValid g.frame.opens) procs s.frame.names.fds; carried = s.frame.names.carried };
-            opens = s.frame.opens;
-            pipes = s.frame.pipes;
-            pairs = s.frame.pairs;
-            objects = s.frame.objects;
-            files = s.frame.files;
-            out = s.frame.out;
-            next = s.frame.next;
-          };
-          memory = s.memory;
-        };
+            }) (record { fds = All-filter stays (DescriptorsValid g.frame.opens) procs s.frame.names.fds; carried = s.frame.names.carried }) s;
         held = held_grows g left (λ n. still (is_at n) (λ x maps fds. ap (λ (l : List (ℕ × ℕ)). list_any (λ d. d.1 == n) l) fds)) (λ n. still (maps_object n) (λ x maps fds. ap (list_any (λ m. m.object == n)) maps)) v.held;
       }
 
