@@ -5,7 +5,6 @@ use Rattle.std.proofs.lemmas.List.Elements.{All-head, All-tail, All-weaker}
 use Rattle.std.proofs.lemmas.List.Folds.{list_any-append, list_any-from_Any}
 use Rattle.std.specs.List.{flat_map, list_any, range_with_len}
 use Rattle.std.specs.Prelude.{All, Any, if◌then◌else◌, nat_lt}
-use Rattle.address_maps.specs.Cut.{touches}
 use Rattle.address_maps.specs.Mappings.{mapping_at}
 use Rattle.address_maps.specs.declared.maps.Mapping.{Mapping}
 use Rattle.descriptors.specs.declared.opens.Open.{Open}
@@ -18,7 +17,7 @@ use Rattle.group_defs.specs.Fork.{Copy, copies_from, to_copy}
 use Rattle.group_defs.specs.Group.{Group, regs_of, runner}
 use Rattle.group_defs.specs.Objects.{is_of_file, maps_object}
 use Rattle.group_defs.specs.Pages.{copied_page, handed_on, is_among, page_at, pages_at, pages_between, pages_emptied, pages_of_file_write, pages_of_writes, pages_written_to, touched_beside, touched_by_effect, touched_by_reply, touched_with_step}
-use Rattle.group_defs.specs.Step.{effect_in, reply_in}
+use Rattle.group_defs.specs.Step.{call_in, effect_in, reply_in}
 use Rattle.group_defs.specs.Valid.{GroupIsValid, TargetIsThere}
 use Rattle.group_defs.specs.declared.frame.Proc.{Proc}
 use Rattle.group_files.specs.Files.{length_of}
@@ -27,7 +26,6 @@ use Rattle.group_laws.proofs.ForkLists.{IsCopyOf, copies_all}
 use Rattle.group_laws.proofs.Lists.{any_at}
 use Rattle.group_laws.proofs.ObjectBytes.{unfound}
 use Rattle.group_laws.proofs.OthersBytes.{open_has}
-use Rattle.group_laws.proofs.UnmapLaws.{own}
 use Rattle.rv64_isa.specs.Instruction.{Effect, calls, list_of, steps, traps}
 use Rattle.rv64_isa.specs.Memory.{Write, stored}
 use Rattle.rv64_isa.specs.Numbers.{wrapped}
@@ -141,6 +139,12 @@ module _ (g : Group) (p : Proc) (object page : ℕ) (valid : GroupIsValid g) (un
   by_effect durable so_far (steps r stored) = writes_elsewhere object page p.maps (list_of stored) unmapped
   by_effect durable so_far calls = of_reply so_far (call_number (regs_of p)) (reply_in durable g p (call_number (regs_of p)))
   by_effect durable so_far (traps status) = refl
+
+-- A call touches no page of an object of the group that the caller doesn't map and that isn't a file's.
+pub untouched_by_calls : (durable : Bool) (g : Group) (pid number : ℕ) (p : Proc) (so_far : List (ℕ × ℕ)) (object page : ℕ) → GroupIsValid g → runner g pid ≡ Some p → maps_object object p ≡ false → is_of_file g.frame.files object ≡ false → object < g.frame.next.object
+    → is_among (touched_by_reply g p so_far number (call_in durable g p number)) (object, page) ≡ false
+unfolding maps_object
+untouched_by_calls durable g pid number p so_far object page valid is none no_file below = of_reply g p object page valid none no_file below so_far number (call_in durable g p number)
 
 -- A step touches no page of an object of the group that its process doesn't map and that isn't a file's.
 pub elsewhere_untouched : (durable : Bool) (g : Group) (pid : ℕ) (p : Proc) (so_far : List (ℕ × ℕ)) (object page : ℕ) → GroupIsValid g → runner g pid ≡ Some p → maps_object object p ≡ false → is_of_file g.frame.files object ≡ false → object < g.frame.next.object

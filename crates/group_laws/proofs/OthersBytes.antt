@@ -5,33 +5,30 @@ use Rattle.std.proofs.lemmas.List.Elements.{All-cons, All-map, All-nil, All-weak
 use Rattle.std.specs.List.{filter_map, list_any}
 use Rattle.std.specs.Prelude.{All, Any, find}
 use Rattle.address_maps.specs.Cut.{cut}
-use Rattle.address_maps.specs.Mappings.{has}
 use Rattle.address_maps.specs.declared.maps.Mapping.{Mapping}
 use Rattle.descriptors.specs.declared.opens.Open.{Open}
 use Rattle.group_defs.specs.Calls.{Reply, answers, ends, fd_of, refuses, waits}
 use Rattle.group_defs.specs.Cells.{bytes_in, sight}
 use Rattle.group_defs.specs.Changes.{open_at, with_break, with_fds, with_maps, with_object, with_pairs, with_procs, zeros}
-use Rattle.group_defs.specs.Family.{after_end, ended, reaped}
+use Rattle.group_defs.specs.Family.{after_end, ended}
 use Rattle.group_defs.specs.FileCalls.{write_place}
 use Rattle.group_defs.specs.Fork.{Copy, copies_from, forked, to_copy}
 use Rattle.group_defs.specs.Group.{Group, is_runner, regs_of, runner}
 use Rattle.group_defs.specs.Held.{is_kept, settled}
-use Rattle.group_defs.specs.MapCalls.{grown, mapped, new_mapping, shrunk}
+use Rattle.group_defs.specs.MapCalls.{mapped, new_mapping}
 use Rattle.group_defs.specs.Mappings.{IsInside}
 use Rattle.group_defs.specs.Objects.{is_of_file, maps_object}
-use Rattle.group_defs.specs.Step.{after_effect, after_reply, effect_in, group_step, reply_in}
+use Rattle.group_defs.specs.Step.{after_effect, after_reply, call_in, effect_in, group_step, reply_in}
 use Rattle.group_defs.specs.Valid.{GroupIsValid, TargetIsThere}
 use Rattle.group_defs.specs.declared.frame.Proc.{Proc}
 use Rattle.group_files.specs.declared.named_files.FileRec.{FileRec}
 use Rattle.group_laws.proofs.ForkLists.{IsCopyOf, copies_all}
 use Rattle.group_laws.proofs.Inside.{found_has}
 use Rattle.group_laws.proofs.Lists.{any_all, any_true, any_weaker, found_all, found_is, true_any}
-use Rattle.group_laws.proofs.NewFileLaws.{unmapped}
 use Rattle.group_laws.proofs.ObjectBytes.{further_objects, kept_bytes, replaced_other, unwritten}
 use Rattle.group_laws.proofs.OffsetLaws.{open_found}
-use Rattle.group_laws.proofs.OpenLaws.{one_more}
 use Rattle.group_laws.proofs.OthersStay.{ended_other, plain_runs, step_is}
-use Rattle.group_laws.proofs.Replies.{Leaves, Opened, Plain, clone_leaves, openat_leaves, reply_holds, with_put, write_reply}
+use Rattle.group_laws.proofs.Replies.{Leaves, Opened, Plain, call_holds, clone_leaves, openat_leaves, served_or_refused, with_put, write_reply}
 use Rattle.group_laws.proofs.ReplyLaws.{found_pid, maps_no_file}
 use Rattle.group_laws.proofs.StoreLaws.{NoFile}
 use Rattle.lists.specs.Bytes.{put}
@@ -148,9 +145,9 @@ module _ (durable : Bool) (g : Group) (p : Proc) (other : ℕ) (x : Proc) (n : �
       let target = open_has (λ y. TargetIsThere g.frame.files g.frame.pipes g.frame.pairs y.kind) p.fds g.frame.opens (fd_of (regs_of p)) o valid.sound.frame.opens.targets at in
       replaced_other g.memory object (put (bytes_in g.memory object) (write_place g o object) bytes) n (no_file object (subst (TargetIsThere g.frame.files g.frame.pipes g.frame.pairs) is target))
 
-  reply_bytes : (number : ℕ) → Leaves Bytes (reply_in durable g p number)
-  reply_bytes =
-      reply_holds durable g p Bytes plain_bytes (λ k r. Leaves Bytes r) (λ k r leaves. leaves) (openat_leaves g p Bytes opened_bytes (sight g p) (regs_of p))
+  call_leaves : (number : ℕ) → Leaves Bytes (call_in durable g p number)
+  call_leaves =
+      call_holds durable g p Bytes plain_bytes (λ k r. Leaves Bytes r) (λ k r leaves. leaves) (openat_leaves g p Bytes opened_bytes (sight g p) (regs_of p))
       (write_reply (Leaves Bytes) g (sight g p) tt (λ errno. tt) refl (λ bytes few. refl) (λ value pipes. refl) (λ value pairs. refl) p (regs_of p) (λ o at object is bytes within. put_bytes o at object is bytes))
       (clone_leaves g p Bytes (λ can. forked_bytes) (regs_of p))
 
@@ -166,10 +163,24 @@ module _ (durable : Bool) (g : Group) (p : Proc) (other : ℕ) (x : Proc) (n : �
   after_bytes (answers value h writes) leaves = unwritten h.memory p.maps n writes unmapped_here ∙ leaves
   after_bytes (ends status) leaves = end_bytes status
 
+  pub call_bytes : (number : ℕ) → Bytes (after_reply g p (call_in durable g p number))
+  call_bytes number = after_bytes (call_in durable g p number) (call_leaves number)
+
   pub effect_bytes : (e : Effect) → Bytes (after_effect durable g p e)
   effect_bytes (steps r stored) = unwritten g.memory p.maps n (list_of stored) unmapped_here
-  effect_bytes calls = after_bytes (reply_in durable g p (call_number (regs_of p))) (reply_bytes (call_number (regs_of p)))
+  effect_bytes calls = after_bytes (reply_in durable g p number) (served_or_refused durable g p (Leaves Bytes) number (call_leaves number) tt)
+    where
+      number : ℕ
+      number = call_number (regs_of p)
   effect_bytes (traps status) = end_bytes status
+
+-- A call changes no byte of an object that the caller doesn't map and another running process does.
+pub others_bytes_by_calls : (durable : Bool) (g : Group) (pid other number : ℕ) (p x : Proc) (object : ℕ) → GroupIsValid g → (pid == other) ≡ false → runner g pid ≡ Some p → runner g other ≡ Some x → maps_object object x ≡ true → maps_object object p ≡ false
+    → bytes_in (after_reply g p (call_in durable g p number)).memory object ≡ bytes_in g.memory object
+unfolding runner maps_object
+others_bytes_by_calls durable g pid other number p x object valid differ found there maps none =
+    let mine : p.pid ≡ pid = found_pid g.frame.procs pid p found in
+    call_bytes durable g p other x object (ap (λ k. k == other) mine ∙ differ) valid (ap (λ k. find (is_runner k) g.frame.procs) mine ∙ found) there maps none number
 
 -- A step changes no byte of an object that its process doesn't map and another running process does.
 pub others_bytes : (durable : Bool) (g : Group) (pid other : ℕ) (p x : Proc) (object : ℕ) → GroupIsValid g → (pid == other) ≡ false → runner g pid ≡ Some p → runner g other ≡ Some x → maps_object object x ≡ true → maps_object object p ≡ false

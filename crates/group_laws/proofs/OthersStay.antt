@@ -8,26 +8,24 @@ use Rattle.address_maps.specs.declared.maps.Mapping.{Mapping}
 use Rattle.group_defs.specs.Calls.{Reply, answers, ends, refuses, waits}
 use Rattle.group_defs.specs.Cells.{sight}
 use Rattle.group_defs.specs.Changes.{on_caller, with_break, with_fds, with_maps, with_object, with_pairs}
-use Rattle.group_defs.specs.Family.{after_end, ended, ended_process, is_child, reaped, without_proc}
+use Rattle.group_defs.specs.Family.{after_end, ended, ended_process, is_child, without_proc}
 use Rattle.group_defs.specs.Fork.{Copy, child_of, copies_from, forked, to_copy}
 use Rattle.group_defs.specs.Group.{Group, is_runner, is_running, regs_of, runner, with_regs}
 use Rattle.group_defs.specs.Held.{settled}
-use Rattle.group_defs.specs.MapCalls.{grown, mapped, new_mapping, shrunk}
-use Rattle.group_defs.specs.Step.{after_effect, after_reply, effect_in, group_step, reply_in}
+use Rattle.group_defs.specs.MapCalls.{mapped, new_mapping}
+use Rattle.group_defs.specs.Step.{after_effect, after_reply, call_in, effect_in, group_step, reply_in}
 use Rattle.group_defs.specs.declared.frame.Proc.{Proc}
 use Rattle.group_laws.proofs.ForkLists.{found_first}
 use Rattle.group_laws.proofs.Inside.{found_has}
 use Rattle.group_laws.proofs.Lists.{any_weaker, found_is}
-use Rattle.group_laws.proofs.NewFileLaws.{unmapped}
-use Rattle.group_laws.proofs.OpenLaws.{one_more}
-use Rattle.group_laws.proofs.Replies.{Leaves, Opened, Plain, clone_leaves, openat_leaves, reply_holds, write_reply}
+use Rattle.group_laws.proofs.Replies.{Leaves, Opened, Plain, call_holds, clone_leaves, openat_leaves, served_or_refused, write_reply}
 use Rattle.group_laws.proofs.ReplyLaws.{found_pid}
 use Rattle.group_laws.proofs.SettledLaws.{rise_unique}
 use Rattle.rv64_isa.specs.Instruction.{Effect, calls, steps, traps}
 use Rattle.rv64_isa.specs.Memory.{stored}
 use Rattle.rv64_isa.specs.Registers.{answered, call_number}
 use Rattle.tables.specs.Lists.{on_first}
-use Rattle.tables.specs.Rising.{Rise, added, changed, removed}
+use Rattle.tables.specs.Rising.{Rise, added}
 
 -- the same process, but for a parent of this pid, who may be none then
 abbrev pub IsSame : ℕ → Proc → Proc → Type 0
@@ -182,10 +180,10 @@ module _ (durable : Bool) (g : Group) (p : Proc) (other : ℕ) (x : Proc) (diffe
   unfolding forked
   forked_runs copies = found_first (is_runner other) g.frame.procs (child_of g.frame.next.pid copies p ∷ []) x there
 
-  -- what each reply and each step leaves of it
-  reply_runs : (number : ℕ) → Leaves Runs (reply_in durable g p number)
-  reply_runs =
-      reply_holds durable g p Runs plain_runs (λ n r. Leaves Runs r) (λ n r leaves. leaves) (openat_leaves g p Runs opened_runs (sight g p) (regs_of p))
+  -- what each call and each step leaves of it
+  call_runs : (number : ℕ) → Leaves Runs (call_in durable g p number)
+  call_runs =
+      call_holds durable g p Runs plain_runs (λ n r. Leaves Runs r) (λ n r leaves. leaves) (openat_leaves g p Runs opened_runs (sight g p) (regs_of p))
       (write_reply (Leaves Runs) g (sight g p) tt (λ errno. tt) there (λ bytes few. there) (λ value pipes. there) (λ value pairs. there) p (regs_of p) (λ o at object is bytes within. there))
       (clone_leaves g p Runs (λ can. forked_runs (copies_from g.frame.next.object (to_copy g.frame p))) (regs_of p))
 
@@ -199,10 +197,25 @@ module _ (durable : Bool) (g : Group) (p : Proc) (other : ℕ) (x : Proc) (diffe
   replied (answers value h writes) leaves = (x, by_caller (with_regs (answered (regs_of p) value)) (λ y. refl) h leaves, (refl, inl refl))
   replied (ends status) leaves = over status
 
+  pub call_stays : (number : ℕ) → IsKept p.pid other x (after_reply g p (call_in durable g p number))
+  call_stays number = replied (call_in durable g p number) (call_runs number)
+
   pub effect_stays : (e : Effect) → IsKept p.pid other x (after_effect durable g p e)
   effect_stays (steps r stored) = (x, by_caller (with_regs r) (λ y. refl) g there, (refl, inl refl))
-  effect_stays calls = replied (reply_in durable g p (call_number (regs_of p))) (reply_runs (call_number (regs_of p)))
+  effect_stays calls = replied (reply_in durable g p number) (served_or_refused durable g p (Leaves Runs) number (call_runs number) tt)
+    where
+      number : ℕ
+      number = call_number (regs_of p)
   effect_stays (traps status) = over status
+
+-- A call leaves every other running process as it is, but for a parent that it ended.
+pub others_stay_by_calls : (durable : Bool) (g : Group) (pid other number : ℕ) (p x : Proc) → Rise (λ q. q.pid) g.frame.procs → (pid == other) ≡ false → runner g pid ≡ Some p → runner g other ≡ Some x
+    → (y : Proc) × (runner (after_reply g p (call_in durable g p number)) other ≡ Some y) × (y ≡ record x { parent = y.parent }) × ((y.parent ≡ x.parent) ⊎ ((y.parent ≡ 0) × (x.parent ≡ pid)))
+unfolding runner
+others_stay_by_calls durable g pid other number p x rise differ found there =
+    let mine : p.pid ≡ pid = found_pid g.frame.procs pid p found in
+    let kept = call_stays durable g p other x (ap (λ n. n == other) mine ∙ differ) rise there number in
+    (kept.0, kept.1, kept.2.0, ⊎_elim (λ same. inl same) (λ both. inr (both.0, both.1 ∙ mine)) kept.2.1)
 
 -- A step of another process than p, who runs under its pid.
 pub step_is : (durable : Bool) (g : Group) (pid : ℕ) → (runner g pid ≡ None → group_step durable g pid ≡ g) × ((p : Proc) → runner g pid ≡ Some p → group_step durable g pid ≡ after_effect durable g p (effect_in g p))

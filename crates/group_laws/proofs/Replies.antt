@@ -35,7 +35,6 @@ use Rattle.pipes_socks.specs.Pipes.{pipe_bytes, waits_for_room}
 use Rattle.pipes_socks.specs.declared.streams.Message.{Message}
 use Rattle.pipes_socks.specs.declared.streams.Pair.{Pair}
 use Rattle.pipes_socks.specs.declared.streams.Pipe.{Pipe}
-use Rattle.rv64_isa.specs.Instruction.{calls}
 use Rattle.rv64_isa.specs.Memory.{Cells, both, byte_with, bytes_with, can_write, readable}
 use Rattle.rv64_isa.specs.Numbers.{has_bit, low_word, wrapped}
 use Rattle.rv64_isa.specs.Registers.{a0, a1, a2, a3, a4}
@@ -295,21 +294,13 @@ read_count right cells address (suc n) bytes e = by_parts (byte_with right cells
 abbrev pub with_put : Group → Open → ℕ → ℕ → List ℕ → Group
 with_put g o object place bytes = with_opens (with_content g object place bytes) (with_offset g.frame.opens o.number (place + length bytes))
 
--- What holds of each of these holds of every reply of write.
+-- What holds of each of these holds of every reply of write, given what holds of a write to the outside.
 module _ (P : Reply Group → Type 0) (g : Group) (cells : Cells) (waiting : P waits) (refused : (errno : ℕ) → P (refuses errno)) (same : P (answers 0 g []))
-    (out : (bytes : List ℕ) → length bytes ≤ room g.frame.out → P (answers (length bytes) (with_out g (with_output g.frame.out bytes)) []))
     (pipes : (value : ℕ) (list : List Pipe) → P (answers value (with_pipes g list) []))
     (pairs : (value : ℕ) (list : List Pair) → P (answers value (with_pairs g list) [])) where
   if_either : (b : Bool) (x y : Reply Group) → P x → P y → P (if b then x else y)
   if_either true x y p q = p
   if_either false x y p q = q
-
-  to_outside : (buf n : ℕ) → P (write_outside g cells buf n)
-  to_outside buf n = if_either (n == 0) _ _ same (if_either (room g.frame.out == 0) _ _ waiting (by_bytes (readable cells buf (min n (room g.frame.out))) refl))
-    where
-      by_bytes : (x : Option (List ℕ)) → readable cells buf (min n (room g.frame.out)) ≡ x → P (put_outside g x)
-      by_bytes None e = refused EFAULT
-      by_bytes (Some bytes) e = let count = read_count 1 cells buf (min n (room g.frame.out)) bytes e in out bytes (omega (arith, count))
 
   to_pipe : (pipe buf n : ℕ) → P (write_pipe g cells pipe buf n)
   to_pipe pipe buf n = if_either (n == 0) _ _ same (if_either (not (has_reader g.frame.opens pipe)) _ _ (refused EPIPE) (if_either (waits_for_room n (pipe_room g pipe)) _ _ waiting (by_bytes (readable cells buf (min n (pipe_room g pipe))))))
@@ -341,20 +332,53 @@ module _ (P : Reply Group → Type 0) (g : Group) (cells : Cells) (waiting : P w
         by_place true e = refused EFBIG
         by_place false e = by_bytes (leb-false 1048576 place e) (readable cells buf (min n (1048576 - place))) refl
 
-  by_kind : (o : Open) (buf n : ℕ) (kind : OpenKind) → ((object : ℕ) → kind ≡ kinds.File object → (bytes : List ℕ) → write_place g o object + length bytes ≤ 1048576 → P (answers (length bytes) (with_put g o object (write_place g o object) bytes) [])) → P (write_kind g cells o buf n kind)
-  by_kind o buf n kinds.Nothing file = refused EBADF
-  by_kind o buf n kinds.Outside file = to_outside buf n
-  by_kind o buf n (kinds.File object) file = to_file o object (file object refl) buf n
-  by_kind o buf n (kinds.PipeRead pipe) file = refused EBADF
-  by_kind o buf n (kinds.PipeWrite pipe) file = to_pipe pipe buf n
-  by_kind o buf n (kinds.PairEnd pair end) file = to_pair pair end buf n
+  by_kind : (o : Open) (buf n : ℕ) (kind : OpenKind) → (kind ≡ kinds.Outside → P (write_outside g cells buf n)) → ((object : ℕ) → kind ≡ kinds.File object → (bytes : List ℕ) → write_place g o object + length bytes ≤ 1048576 → P (answers (length bytes) (with_put g o object (write_place g o object) bytes) [])) → P (write_kind g cells o buf n kind)
+  by_kind o buf n kinds.Nothing outside file = refused EBADF
+  by_kind o buf n kinds.Outside outside file = outside refl
+  by_kind o buf n (kinds.File object) outside file = to_file o object (file object refl) buf n
+  by_kind o buf n (kinds.PipeRead pipe) outside file = refused EBADF
+  by_kind o buf n (kinds.PipeWrite pipe) outside file = to_pipe pipe buf n
+  by_kind o buf n (kinds.PairEnd pair end) outside file = to_pair pair end buf n
+
+  pub written_reply : (r : Regs) (x : Option Open) → ((o : Open) → x ≡ Some o → o.kind ≡ kinds.Outside → P (write_outside g cells (a1 r) (a2 r)))
+      → ((o : Open) → x ≡ Some o → (object : ℕ) → o.kind ≡ kinds.File object → (bytes : List ℕ) → write_place g o object + length bytes ≤ 1048576 → P (answers (length bytes) (with_put g o object (write_place g o object) bytes) [])) → P (write_open g cells r x)
+  written_reply r None outside file = refused EBADF
+  written_reply r (Some o) outside file = by_kind o (a1 r) (a2 r) o.kind (outside o refl) (file o refl)
+
+-- The same, given what holds of bytes put outside.
+module _ (P : Reply Group → Type 0) (g : Group) (cells : Cells) (waiting : P waits) (refused : (errno : ℕ) → P (refuses errno)) (same : P (answers 0 g []))
+    (out : (bytes : List ℕ) → length bytes ≤ room g.frame.out → P (answers (length bytes) (with_out g (with_output g.frame.out bytes)) []))
+    (pipes : (value : ℕ) (list : List Pipe) → P (answers value (with_pipes g list) []))
+    (pairs : (value : ℕ) (list : List Pair) → P (answers value (with_pairs g list) [])) where
+  to_outside : (buf n : ℕ) → P (write_outside g cells buf n)
+  to_outside buf n = by_count (n == 0)
+    where
+      by_bytes : (x : Option (List ℕ)) → readable cells buf (min n (room g.frame.out)) ≡ x → P (put_outside g x)
+      by_bytes None e = refused EFAULT
+      by_bytes (Some bytes) e = let count = read_count 1 cells buf (min n (room g.frame.out)) bytes e in out bytes (omega (arith, count))
+
+      by_room : (b : Bool) → P (if b then waits else put_outside g (readable cells buf (min n (room g.frame.out))))
+      by_room true = waiting
+      by_room false = by_bytes (readable cells buf (min n (room g.frame.out))) refl
+
+      by_count : (b : Bool) → P (if b then answers 0 g [] else if room g.frame.out == 0 then waits else put_outside g (readable cells buf (min n (room g.frame.out))))
+      by_count true = same
+      by_count false = by_room (room g.frame.out == 0)
 
   pub opened_reply : (r : Regs) (x : Option Open) → ((o : Open) → x ≡ Some o → (object : ℕ) → o.kind ≡ kinds.File object → (bytes : List ℕ) → write_place g o object + length bytes ≤ 1048576 → P (answers (length bytes) (with_put g o object (write_place g o object) bytes) [])) → P (write_open g cells r x)
-  opened_reply r None file = refused EBADF
-  opened_reply r (Some o) file = by_kind o (a1 r) (a2 r) o.kind (file o refl)
+  opened_reply r x file = written_reply P g cells waiting refused same pipes pairs r x (λ o at is. to_outside (a1 r) (a2 r)) file
 
   pub write_reply : (p : Proc) (r : Regs) → ((o : Open) → open_at p.fds g.frame.opens (fd_of r) ≡ Some o → (object : ℕ) → o.kind ≡ kinds.File object → (bytes : List ℕ) → write_place g o object + length bytes ≤ 1048576 → P (answers (length bytes) (with_put g o object (write_place g o object) bytes) [])) → P (write g p cells r)
   write_reply p r file = opened_reply r (open_at p.fds g.frame.opens (fd_of r)) file
+
+-- What the program replies is the call's reply, or a refusal where it doesn't have the call.
+pub served_or_refused : (durable : Bool) (g : Group) (p : Proc) (Holds : Reply Group → Type 0) (number : ℕ) → Holds (call_in durable g p number) → Holds (refuses ENOSYS) → Holds (reply_in durable g p number)
+unfolding reply_in
+served_or_refused durable g p Holds number of_call of_refusal = by_test (list_any (λ n. n == number) served)
+  where
+    by_test : (b : Bool) → Holds (if b then call_in durable g p number else refuses ENOSYS)
+    by_test true = of_call
+    by_test false = of_refusal
 
 -- What holds of what the calls leave, and of openat, write and clone by themselves, holds of every reply.
 module _ (durable : Bool) (g : Group) (p : Proc) (P : Group → Type 0) (c : Plain g p P) (Holds : ℕ → Reply Group → Type 0) (plain : (n : ℕ) (r : Reply Group) → Leaves P r → Holds n r)
@@ -400,9 +424,4 @@ module _ (durable : Bool) (g : Group) (p : Proc) (P : Group → Type 0) (c : Pla
       (any (number == 260) number _ _ (wait4_leaves g p P c s r) (plain number (refuses 38) tt)))))))))))))))))))))))
 
   pub reply_holds : (number : ℕ) → Holds number (reply_in durable g p number)
-  unfolding reply_in
-  reply_holds number = by_test (list_any (λ n. n == number) served)
-    where
-      by_test : (b : Bool) → Holds number (if b then call_in durable g p number else refuses ENOSYS)
-      by_test true = call_holds number
-      by_test false = plain number (refuses ENOSYS) tt
+  reply_holds number = served_or_refused durable g p (Holds number) number (call_holds number) (plain number (refuses ENOSYS) tt)

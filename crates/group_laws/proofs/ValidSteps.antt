@@ -1,13 +1,12 @@
 -- The law: a step of a running process keeps a group valid.
-use Rattle.std.proofs.Common.{◌≡◌, ℕ, ◌^◌, ◌≤◌, Bool, true, false, ◌||◌, ◌==◌, Option, Some, None, refl, ap, ◌∙◌, arith}
+use Rattle.std.proofs.Common.{◌≡◌, ℕ, Bool, true, false, ◌||◌, ◌==◌, Option, Some, None, refl, ap, ◌∙◌, arith}
 use Rattle.std.specs.List.{list_any}
 use Rattle.std.specs.Prelude.{find, if◌then◌else◌}
 use Rattle.group_defs.specs.Cells.{sight}
-use Rattle.group_defs.specs.Output.{last_position}
 use Rattle.group_defs.specs.Group.{Group, is_runner, regs_of, runner}
 use Rattle.group_defs.specs.ReadWrite.{write}
 use Rattle.group_defs.specs.Standing.{State, is_durable}
-use Rattle.group_defs.specs.Step.{stands_still, after_effect, do_step, effect_in, group_step, is_waiting, call_in, reply_in, reply_to, served, step_to}
+use Rattle.group_defs.specs.Step.{stands_still, after_effect, after_reply, do_step, effect_in, group_step, call_in, reply_in, reply_to, served, step_to}
 use Rattle.group_defs.specs.Valid.{GroupIsValid}
 use Rattle.group_defs.specs.declared.frame.Proc.{Proc}
 use Rattle.rv64_isa.specs.Instruction.{Effect, calls, list_of, steps, traps}
@@ -73,6 +72,13 @@ module _ (g : Group) (p : Proc) (found : find (is_runner p.pid) g.frame.procs �
       goes_on _ p p r fits.0 found (written_valid g p.maps (list_of write) (maps_no_file g p found v) fits.1 v)
   effect_valid durable calls fits = reply_valid g p (reply_to durable g p) found v (reply_keeps durable (call_number (regs_of p)))
   effect_valid durable (traps status) fits = ended_valid g p status v.sound found fits
+
+-- what a call makes of the group, whether the program has it or not
+pub call_valid : (durable : Bool) (g : Group) (pid number : ℕ) (p : Proc) → GroupIsValid g → IsFresh g → runner g pid ≡ Some p → GroupIsValid (after_reply g p (call_in durable g p number))
+unfolding runner
+call_valid durable g pid number p v low is =
+    let mine : find (is_runner p.pid) g.frame.procs ≡ Some p = ap (λ n. find (is_runner n) g.frame.procs) (found_pid g.frame.procs pid p is) ∙ is in
+    reply_valid g p (call_in durable g p number) mine v (call_keeps g p mine v low durable number)
 
 pub group_step_valid : (durable : Bool) (g : Group) (pid : ℕ) → GroupIsValid g → IsFresh g → GroupIsValid (group_step durable g pid)
 unfolding group_step runner

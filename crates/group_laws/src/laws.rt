@@ -13,16 +13,19 @@ ghost use Rattle.group_defs.specs.Group.{Group, runner, regs_of, with_regs};
 ghost use Rattle.group_defs.specs.Objects.{is_of_file, maps_object};
 ghost use Rattle.group_defs.specs.Standing.{Standing, State, acknowledged, barrier, is_durable, since_of, stepped};
 ghost use Rattle.group_laws.specs.Fresh.{IsFresh, Rises};
-ghost use Rattle.group_defs.specs.Step.{after_effect, group_step, group_waits, is_local};
-ghost use Rattle.group_defs.specs.Pages.{is_among, touched_with_step};
+ghost use Rattle.group_defs.specs.Step.{after_effect, after_reply, call_in, group_step, group_waits, is_local};
+ghost use Rattle.group_defs.specs.Pages.{is_among, touched_by_reply, touched_with_step};
 ghost use Rattle.group_defs.specs.Valid.{GroupIsValid};
 ghost use Rattle.tables.specs.Rising.{Rise};
 
-/// A step of any process, by an instruction or any call, keeps a group valid while its next numbers and its last position are
-/// far from their types' ends.
+/// A step of any process, by an instruction or a call, keeps a group valid while its next numbers and its last position are
+/// far from their types' ends. So does every call that is defined, of any running process, whether the program has it or not.
 pub fn steps_keep_validity()
-    ensures { (durable : Bool) (g : Group) (pid : ℕ) → GroupIsValid g → IsFresh g
+    ensures step { (durable : Bool) (g : Group) (pid : ℕ) → GroupIsValid g → IsFresh g
         → GroupIsValid (group_step durable g pid) }
+    ensures calls { (durable : Bool) (g : Group) (pid number : ℕ) (p : Proc) → GroupIsValid g
+        → IsFresh g → runner g pid ≡ Some p
+        → GroupIsValid (after_reply g p (call_in durable g p number)) }
 {}
 
 /// So do a barrier and an acknowledgement.
@@ -82,6 +85,34 @@ pub fn others_stay()
         → maps_object object p ≡ false → is_of_file g.frame.files object ≡ false
         → object < g.frame.next.object → is_among so_far (object, page) ≡ false
         → is_among (touched_with_step durable g pid so_far) (object, page) ≡ false }
+{}
+
+/// So does every call that is defined, whether the program has it or not: it leaves every other running process as a step does;
+/// it changes no byte of an object that the caller doesn't map and another running process does, so each other sees the same of
+/// its private mappings; and it touches no page of an object of the group that the caller doesn't map and that isn't a file's.
+pub fn others_stay_by_calls()
+    ensures processes { (durable : Bool) (g : Group) (pid other number : ℕ) (p x : Proc)
+        → Rise (λ q. q.pid) g.frame.procs → (pid == other) ≡ false → runner g pid ≡ Some p
+        → runner g other ≡ Some x
+        → (q : Proc)
+        × (runner (after_reply g p (call_in durable g p number)) other ≡ Some q)
+        × (q ≡ record x { parent = q.parent })
+        × ((q.parent ≡ x.parent) ⊎ ((q.parent ≡ 0) × (x.parent ≡ pid))) }
+    ensures bytes { (durable : Bool) (g : Group) (pid other number : ℕ) (p q : Proc) (object : ℕ)
+        → GroupIsValid g → (pid == other) ≡ false → runner g pid ≡ Some p → runner g other ≡ Some q
+        → maps_object object q ≡ true → maps_object object p ≡ false
+        → bytes_in (after_reply g p (call_in durable g p number)).memory object
+        ≡ bytes_in g.memory object }
+    ensures private { (durable : Bool) (g : Group) (pid other number : ℕ) (p q : Proc)
+        → GroupIsValid g → (pid == other) ≡ false → runner g pid ≡ Some p → runner g other ≡ Some q
+        → private_cells (cells_of (after_reply g p (call_in durable g p number)).memory q.maps)
+        ≡ private_cells (sight g q) }
+    ensures pages { (durable : Bool) (g : Group) (pid number : ℕ) (p : Proc)
+        (so_far : List (ℕ × ℕ)) (object page : ℕ) → GroupIsValid g → runner g pid ≡ Some p
+        → maps_object object p ≡ false → is_of_file g.frame.files object ≡ false
+        → object < g.frame.next.object
+        → is_among (touched_by_reply g p so_far number (call_in durable g p number)) (object, page)
+        ≡ false }
 {}
 
 /// After a step the next barrier is the first that covers the process that made it, and a child that it made, which has the
