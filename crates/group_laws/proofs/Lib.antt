@@ -48,3 +48,4 @@ pub mod OthersStay
 pub mod OthersBytes
 pub mod OthersPrivate
 pub mod Elsewhere
+pub mod OutsideLaws
