@@ -49,3 +49,4 @@ pub mod OthersBytes
 pub mod OthersPrivate
 pub mod Elsewhere
 pub mod OutsideLaws
+pub mod LocalStores

@@ -3,12 +3,13 @@
 ghost use Rattle.std.specs.Prelude.{Any, ◌≡◌, ◌⊎◌, ◌+◌, ◌<◌, ◌≤◌, ◌==◌, if◌then◌else◌, ℕ, Bool, List, Some, IsTrue, true, false, Option};
 ghost use Rattle.rv64_isa.specs.Instruction.{instruction, list_of, steps};
 ghost use Rattle.rv64_isa.specs.declared.regs.Regs.{Regs};
-ghost use Rattle.rv64_isa.specs.Memory.{Write, is_same_place, private_cells, stored_all};
+ghost use Rattle.rv64_isa.specs.Memory.{Cell, Write, is_same_place, private_cells, stored_all};
 ghost use Rattle.address_maps.specs.Mappings.{mapping_at};
 ghost use Rattle.std.specs.Option.{option_map};
 ghost use Rattle.group_defs.specs.declared.frame.Proc.{Proc};
 ghost use Rattle.address_maps.specs.declared.maps.Mapping.{Mapping};
 ghost use Rattle.group_defs.specs.Cells.{AllInside, bytes_in, cells_of, sight, with_byte_at, with_writes};
+ghost use Rattle.group_defs.specs.Fork.{maps_privately};
 ghost use Rattle.group_defs.specs.Group.{Group, runner, regs_of, with_regs};
 ghost use Rattle.group_defs.specs.Objects.{is_of_file, maps_object};
 ghost use Rattle.group_defs.specs.Output.{with_output};
@@ -51,7 +52,9 @@ pub fn waiting_changes_nothing()
 {}
 
 /// A local step is the step on the cells of private mappings alone. It is made from the process's registers and what it sees
-/// of its private mappings, and so are these afterwards, whatever the other processes are.
+/// of its private mappings, and so are these afterwards, whatever the other processes are. It stores to these alone: the bytes
+/// of every object that the process doesn't map privately stay, and so does every byte that it or another running process sees
+/// through a shared mapping.
 pub fn local_steps_are_private()
     ensures step { (durable : Bool) (g : Group) (pid : ℕ) (p : Proc) → runner g pid ≡ Some p
         → IsTrue (is_local g pid) → group_step durable g pid
@@ -62,6 +65,13 @@ pub fn local_steps_are_private()
         × (runner (group_step durable g pid) pid ≡ Some (with_regs r p))
         × (private_cells (cells_of (group_step durable g pid).memory p.maps)
         ≡ stored_all (private_cells (sight g p)) (list_of stored)) }
+    ensures elsewhere { (durable : Bool) (g : Group) (pid : ℕ) (p : Proc) (object : ℕ)
+        → runner g pid ≡ Some p → IsTrue (is_local g pid) → maps_privately p.maps object ≡ false
+        → bytes_in (group_step durable g pid).memory object ≡ bytes_in g.memory object }
+    ensures shared { (durable : Bool) (g : Group) (pid other : ℕ) (p q : Proc) (a : ℕ) (c : Cell)
+        → GroupIsValid g → runner g pid ≡ Some p → runner g other ≡ Some q
+        → IsTrue (is_local g pid) → sight g q a ≡ Some c → c.shared ≡ true
+        → cells_of (group_step durable g pid).memory q.maps a ≡ Some c }
 {}
 
 /// A step of one process, by an instruction or any call, leaves every other running process as it is, but for a parent that it
