@@ -6,24 +6,22 @@ use Rattle.address_maps.specs.Cut.{cut}
 use Rattle.group_defs.specs.Calls.{Reply, answers, ends, refuses, waits}
 use Rattle.group_defs.specs.Cells.{sight}
 use Rattle.group_defs.specs.Changes.{with_break, with_fds, with_maps, with_offset, with_opens, with_out, with_pairs, with_pipes}
-use Rattle.group_defs.specs.Family.{ended, reaped, without_proc}
+use Rattle.group_defs.specs.Family.{ended, without_proc}
 use Rattle.group_defs.specs.FileCalls.{write_place}
 use Rattle.group_defs.specs.Fork.{can_copy, copies_from, forked, to_copy}
 use Rattle.group_defs.specs.Group.{Group, regs_of, runner}
 use Rattle.group_defs.specs.Held.{settled}
-use Rattle.group_defs.specs.MapCalls.{grown, mapped, new_mapping, shrunk}
+use Rattle.group_defs.specs.MapCalls.{mapped, new_mapping}
 use Rattle.group_defs.specs.Objects.{memory_objects}
 use Rattle.group_defs.specs.Output.{last_position, room, with_output}
 use Rattle.group_defs.specs.ReadWrite.{write}
 use Rattle.group_defs.specs.Standing.{State, is_durable}
-use Rattle.group_defs.specs.Step.{after_effect, after_reply, do_step, effect_in, group_step, reply_in, reply_to, stands_still, step_to}
+use Rattle.group_defs.specs.Step.{after_effect, after_reply, call_in, do_step, effect_in, group_step, reply_in, stands_still, step_to}
 use Rattle.group_defs.specs.Valid.{GroupIsValid, OutValid}
 use Rattle.group_defs.specs.declared.frame.Next.{Next}
 use Rattle.group_defs.specs.declared.frame.Proc.{Proc}
 use Rattle.group_laws.proofs.ForkLists.{copies_length}
-use Rattle.group_laws.proofs.NewFileLaws.{unmapped}
-use Rattle.group_laws.proofs.OpenLaws.{one_more}
-use Rattle.group_laws.proofs.Replies.{Leaves, Opened, Plain, clone_leaves, openat_leaves, reply_holds, with_put, write_reply}
+use Rattle.group_laws.proofs.Replies.{Leaves, Opened, Plain, call_holds, clone_leaves, openat_leaves, served_or_refused, with_put, write_reply}
 use Rattle.group_laws.specs.Fresh.{Rises}
 use Rattle.rv64_isa.specs.Instruction.{Effect, calls, steps, traps}
 use Rattle.rv64_isa.specs.Registers.{call_number}
@@ -90,9 +88,9 @@ module _ (g : Group) where
         let size = length-append g.frame.out.bytes bytes in
         record { object = omega arith; descr = omega arith; pipe = omega arith; pair = omega arith; position = omega (arith, few, mark, size) }
 
-    reply_rises : (durable : Bool) → GroupIsValid g → (number : ℕ) → Leaves (Rises g) (reply_in durable g p number)
-    reply_rises durable v =
-        reply_holds durable g p (Rises g) plain_rises (λ n r. Leaves (Rises g) r) (λ n r leaves. leaves) (openat_leaves g p (Rises g) opened_rises (sight g p) (regs_of p))
+    call_leaves : (durable : Bool) → GroupIsValid g → (number : ℕ) → Leaves (Rises g) (call_in durable g p number)
+    call_leaves durable v =
+        call_holds durable g p (Rises g) plain_rises (λ n r. Leaves (Rises g) r) (λ n r leaves. leaves) (openat_leaves g p (Rises g) opened_rises (sight g p) (regs_of p))
         (write_reply (Leaves (Rises g)) g (sight g p) tt (λ errno. tt) (same g refl refl) (out_rises v) (λ value pipes. same (with_pipes g pipes) refl refl) (λ value pairs. same (with_pairs g pairs) refl refl) p (regs_of p) (λ o at object is bytes within. same (with_put g o object (write_place g o object) bytes) refl refl))
         (clone_leaves g p (Rises g) forked_rises (regs_of p))
 
@@ -108,8 +106,14 @@ module _ (g : Group) where
 
   effect_rises : (durable : Bool) (p : Proc) (x : Effect) → GroupIsValid g → Rises g (after_effect durable g p x)
   effect_rises durable p (steps r write) v = same _ refl refl
-  effect_rises durable p calls v = after_reply_rises p (reply_to durable g p) (reply_rises p durable v (call_number (regs_of p)))
+  effect_rises durable p calls v = after_reply_rises p (reply_in durable g p number) (served_or_refused durable g p (Leaves (Rises g)) number (call_leaves p durable v number) tt)
+    where
+      number : ℕ
+      number = call_number (regs_of p)
   effect_rises durable p (traps status) v = ended_rises p status
+
+  pub call_rises : (durable : Bool) (p : Proc) (number : ℕ) → GroupIsValid g → Rises g (after_reply g p (call_in durable g p number))
+  call_rises durable p number v = after_reply_rises p (call_in durable g p number) (call_leaves p durable v number)
 
   pub group_step_rises : (durable : Bool) (pid : ℕ) → GroupIsValid g → Rises g (group_step durable g pid)
   unfolding group_step

@@ -38,9 +38,12 @@ pub fn barriers_keep_validity()
         → GroupIsValid (acknowledged s epoch).group }
 {}
 
-/// How far the next numbers and the last position rise in a step at most.
+/// How far the next numbers and the last position rise at most in a step, and by every call that is defined.
 pub fn steps_rise()
-    ensures { (durable : Bool) (g : Group) (pid : ℕ) → GroupIsValid g → Rises g (group_step durable g pid) }
+    ensures step { (durable : Bool) (g : Group) (pid : ℕ) → GroupIsValid g
+        → Rises g (group_step durable g pid) }
+    ensures calls { (durable : Bool) (g : Group) (p : Proc) (number : ℕ) → GroupIsValid g
+        → Rises g (after_reply g p (call_in durable g p number)) }
 {}
 
 /// A waiting process's step changes nothing, and a process that waits isn't local.
