@@ -1,5 +1,5 @@
 -- The leases of a legal trace: no worker and no process has two, and each process that has one runs.
-use Rattle.std.proofs.Common.{◌≡◌, ℕ, zero, suc, ◌<◌, ◌≤◌, ◌==◌, ◌&&◌, ◌||◌, not, Bool, true, false, List, [], ◌∷◌, ◌++◌, length, map, Option, Some, None, refl, ap, sym, ◌∙◌, subst, arith}
+use Rattle.std.proofs.Common.{◌≡◌, ℕ, zero, suc, ◌*◌, ◌<◌, ◌≤◌, ◌==◌, ◌&&◌, ◌||◌, not, Bool, true, false, List, [], ◌∷◌, ◌++◌, length, map, Option, Some, None, refl, ap, sym, ◌∙◌, subst, arith}
 use Rattle.std.specs.Prelude.{All, AllPairs, if◌then◌else◌}
 use Rattle.std.specs.List.{AllByRecursion, filter, find, list_any}
 use Rattle.std.proofs.lemmas.Bool.{eqb-true, eqb-false}
@@ -39,19 +39,19 @@ map_pairs R f keeps (x ∷ xs) h =
 -- a test that no element passes
 none_passes : (t : Lease → Bool) (P : Lease → Type 0) → ((l : Lease) → t l ≡ false → P l) → (xs : List Lease) → list_any t xs ≡ false → All P xs
 none_passes t P f [] e = All-nil P
-none_passes t P f (x ∷ xs) e = by_test (t x) refl e
+none_passes t P f (x ∷ xs) e = by_test (t x) refl (none_passes t P f xs) e
   where
-    by_test : (b : Bool) → t x ≡ b → (b || list_any t xs) ≡ false → All P (x ∷ xs)
-    by_test true is e = absurd (cc)
-    by_test false is e = All-cons P x xs (f x is) (none_passes t P f xs e)
+    by_test : (b : Bool) → t x ≡ b → (list_any t xs ≡ false → All P xs) → (b || list_any t xs) ≡ false → All P (x ∷ xs)
+    by_test true is rest e = absurd (cc)
+    by_test false is rest e = All-cons P x xs (f x is) (rest e)
 
 one_passes : (t : Lease → Bool) (P : Lease → Type 0) (xs : List Lease) → list_any t xs ≡ true → All P xs → (l : Lease) × (t l ≡ true) × P l
 one_passes t P [] e all = absurd (cc)
-one_passes t P (x ∷ xs) e all = by_test (t x) refl e
+one_passes t P (x ∷ xs) e all = by_test (t x) refl (λ more. one_passes t P xs more (All-tail P x xs all)) e
   where
-    by_test : (b : Bool) → t x ≡ b → (b || list_any t xs) ≡ true → (l : Lease) × (t l ≡ true) × P l
-    by_test true is e = (x, is, all 0 x (omega arith))
-    by_test false is e = one_passes t P xs e (All-tail P x xs all)
+    by_test : (b : Bool) → t x ≡ b → (list_any t xs ≡ true → (l : Lease) × (t l ≡ true) × P l) → (b || list_any t xs) ≡ true → (l : Lease) × (t l ≡ true) × P l
+    by_test true is rest e = (x, is, all 0 x (omega arith))
+    by_test false is rest e = rest e
 
 not_true : (b : Bool) → not b ≡ true → b ≡ false
 not_true true e = absurd (cc)
@@ -71,22 +71,19 @@ leased_pid worker pid l e = eqb-true l.pid pid (and_right (l.worker == worker) (
 others_differ : (worker pid : ℕ) (xs : List Lease) → AllPairs (λ a b. a.pid ≡ b.pid → ⊥) xs → list_any (is_lease worker pid) xs ≡ true → All (OtherPid pid) (filter (λ l. not (is_lease worker pid l)) xs)
 unfolding OtherPid
 others_differ worker pid [] h e = All-nil (OtherPid pid)
-others_differ worker pid (x ∷ xs) h e = by_test (is_lease worker pid x) refl e
+others_differ worker pid (x ∷ xs) h e = by_test (is_lease worker pid x) refl (others_differ worker pid xs (λ i j d lt within. h (suc i) (suc j) d (omega (arith, lt)) (omega (arith, within)))) e
   where
     head : All (λ b. x.pid ≡ b.pid → ⊥) xs
     head = λ k d lt. h 0 (suc k) d (omega arith) (omega (arith, lt))
 
-    rest : AllPairs (λ a b. a.pid ≡ b.pid → ⊥) xs
-    rest = λ i j d lt within. h (suc i) (suc j) d (omega (arith, lt)) (omega (arith, within))
-
-    by_test : (b : Bool) → is_lease worker pid x ≡ b → (b || list_any (is_lease worker pid) xs) ≡ true → All (OtherPid pid) (if not b then x ∷ filter (λ l. not (is_lease worker pid l)) xs else filter (λ l. not (is_lease worker pid l)) xs)
-    by_test true is e =
+    by_test : (b : Bool) → is_lease worker pid x ≡ b → (list_any (is_lease worker pid) xs ≡ true → All (OtherPid pid) (filter (λ l. not (is_lease worker pid l)) xs)) → (b || list_any (is_lease worker pid) xs) ≡ true → All (OtherPid pid) (if not b then x ∷ filter (λ l. not (is_lease worker pid l)) xs else filter (λ l. not (is_lease worker pid l)) xs)
+    by_test true is rest e =
         let here = leased_pid worker pid x is in
         All-filter (λ l. not (is_lease worker pid l)) (OtherPid pid) xs (All-weaker (λ b. x.pid ≡ b.pid → ⊥) (OtherPid pid) (λ b apart same. apart (here ∙ sym same)) xs head)
-    by_test false is e =
+    by_test false is rest e =
         let there = one_passes (is_lease worker pid) (λ b. x.pid ≡ b.pid → ⊥) xs e head in
-        let differs : x.pid ≡ pid → ⊥ = λ same. there.2.1 (same ∙ sym (leased_pid worker pid there.0 there.2.0)) in
-        All-cons (OtherPid pid) x (filter (λ l. not (is_lease worker pid l)) xs) differs (others_differ worker pid xs rest e)
+        let differs : x.pid ≡ pid → ⊥ = λ same. there.2 (same ∙ sym (leased_pid worker pid there.0 there.1)) in
+        All-cons (OtherPid pid) x (filter (λ l. not (is_lease worker pid l)) xs) differs (rest e)
 
 -- ---- apart
 
@@ -111,43 +108,41 @@ turn_apart leases worker pid did h =
 -- what is asked of the next process holds of it
 unleased_ready : (leases : List Lease) (P : ℕ → Type 0) (xs : List ℕ) → AllByRecursion P xs → AllByRecursion (λ x. (is_unleased leases x ≡ true) × P x) (filter (is_unleased leases) xs)
 unleased_ready leases P [] h = tt
-unleased_ready leases P (x ∷ xs) h = by_test (is_unleased leases x) refl
+unleased_ready leases P (x ∷ xs) h = by_test (is_unleased leases x) refl (unleased_ready leases P xs h.1)
   where
-    by_test : (b : Bool) → is_unleased leases x ≡ b → AllByRecursion (λ y. (is_unleased leases y ≡ true) × P y) (if b then x ∷ filter (is_unleased leases) xs else filter (is_unleased leases) xs)
-    by_test true e = ((e, h.0), unleased_ready leases P xs h.1)
-    by_test false e = unleased_ready leases P xs h.1
+    by_test : (b : Bool) → is_unleased leases x ≡ b → AllByRecursion (λ y. (is_unleased leases y ≡ true) × P y) (filter (is_unleased leases) xs) → AllByRecursion (λ y. (is_unleased leases y ≡ true) × P y) (if b then x ∷ filter (is_unleased leases) xs else filter (is_unleased leases) xs)
+    by_test true e rest = ((e, h.0), rest)
+    by_test false e rest = rest
 
 Runs : Group → ℕ → Type 0
 Runs g pid = (p : Proc) × (runner g pid ≡ Some p)
 
 any_found : (t : Proc → Bool) (ps : List Proc) → list_any t ps ≡ true → (p : Proc) × (find t ps ≡ Some p)
 any_found t [] e = absurd (cc)
-any_found t (p ∷ ps) e = by_test (t p) e
+any_found t (p ∷ ps) e = by_test (t p) (any_found t ps) e
   where
-    by_test : (b : Bool) → (b || list_any t ps) ≡ true → (q : Proc) × ((if b then Some p else find t ps) ≡ Some q)
-    by_test true e = (p, refl)
-    by_test false e = any_found t ps e
+    by_test : (b : Bool) → (list_any t ps ≡ true → (q : Proc) × (find t ps ≡ Some q)) → (b || list_any t ps) ≡ true → (q : Proc) × ((if b then Some p else find t ps) ≡ Some q)
+    by_test true rest e = (p, refl)
+    by_test false rest e = rest e
 
 ready_run : (s : State) (ps : List Proc) → ((pid : ℕ) → list_any (is_runner pid) ps ≡ true → list_any (is_runner pid) s.group.frame.procs ≡ true)
     → AllByRecursion (Runs s.group) (map (λ (p : Proc). p.pid) (filter (λ p. is_running p && not (is_waiting s p.pid)) ps))
 unfolding Runs runner
 ready_run s [] within = tt
-ready_run s (p ∷ ps) within = by_test (is_running p) refl (is_waiting s p.pid)
+ready_run s (p ∷ ps) within = by_test (is_running p) refl (is_waiting s p.pid) (ready_run s ps (λ pid e. within pid (or_right (is_runner pid p) (list_any (is_runner pid) ps) e)))
   where
-    rest : AllByRecursion (Runs s.group) (map (λ (q : Proc). q.pid) (filter (λ q. is_running q && not (is_waiting s q.pid)) ps))
-    rest = ready_run s ps (λ pid e. within pid (or_right (is_runner pid p) (list_any (is_runner pid) ps) e))
-      where
-        or_right : (a b : Bool) → b ≡ true → (a || b) ≡ true
-        or_right true b e = refl
-        or_right false b e = e
+    or_right : (a b : Bool) → b ≡ true → (a || b) ≡ true
+    or_right true b e = refl
+    or_right false b e = e
 
-    by_test : (b : Bool) → is_running p ≡ b → (w : Bool) → AllByRecursion (Runs s.group) (map (λ (q : Proc). q.pid) (if b && not w then p ∷ filter (λ q. is_running q && not (is_waiting s q.pid)) ps else filter (λ q. is_running q && not (is_waiting s q.pid)) ps))
-    by_test true is true = rest
-    by_test true is false =
+    by_test : (b : Bool) → is_running p ≡ b → (w : Bool) → AllByRecursion (Runs s.group) (map (λ (q : Proc). q.pid) (filter (λ q. is_running q && not (is_waiting s q.pid)) ps))
+        → AllByRecursion (Runs s.group) (map (λ (q : Proc). q.pid) (if b && not w then p ∷ filter (λ q. is_running q && not (is_waiting s q.pid)) ps else filter (λ q. is_running q && not (is_waiting s q.pid)) ps))
+    by_test true is true rest = rest
+    by_test true is false rest =
         let same : (p.pid == p.pid) ≡ true = grind arith in
         let mine : is_runner p.pid p ≡ true = rw (is, same) refl in
         (any_found (is_runner p.pid) s.group.frame.procs (within p.pid (ap (λ b. b || list_any (is_runner p.pid) ps) mine)), rest)
-    by_test false is w = rest
+    by_test false is w rest = rest
 
 next_is : (leases : List Lease) (s : State) (last pid : ℕ) → next_pid last (filter (is_unleased leases) (ready s)) ≡ Some pid → (is_unleased leases pid ≡ true) × Runs s.group pid
 unfolding ready
@@ -192,7 +187,7 @@ turn_runs quantum r worker pid n valid leased apart run =
     let t : Lease → Bool = λ l. not (is_lease worker pid l) in
     let others = others_differ worker pid r.leases apart.pids leased in
     let before = All-filter t (λ l. Runs r.state.group l.pid) r.leases run in
-    All-map (λ l. Runs (turned quantum r.state pid n).group l.pid) (λ l. record l { moved = does_something r.state pid n || l.moved }) (filter t r.leases)
+    All-map {X = Lease} (λ l. Runs (turned quantum r.state pid n).group l.pid) (λ l. record l { moved = does_something r.state pid n || l.moved }) (filter t r.leases)
     (λ k d lt. other_steps r.state pid (steps_in quantum n) _ valid (others k d lt) (before k d lt))
 
 module _ (limits : Limits) (origin : ℕ) (small : LimitsFit limits) where
@@ -200,11 +195,10 @@ module _ (limits : Limits) (origin : ℕ) (small : LimitsFit limits) where
   StandsApart r = IsGood limits origin small r × AreApart r.leases × AreOfRunning r.state.group r.leases
 
   kept_by : (r : Progress) (m : Mark) → Allowed limits r m → StandsApart r → StandsApart (after_mark limits.quantum r m)
-  unfolding StandsApart
+  unfolding StandsApart Runs
   kept_by r m a (good, apart, run) = (good_kept limits origin small r m a good, apart_kept limits r m a apart, by_mark m a)
     where
       by_mark : (x : Mark) → Allowed limits r x → AreOfRunning (after_mark limits.quantum r x).state.group (after_mark limits.quantum r x).leases
-      unfolding Runs
       by_mark (Take worker pid) b = All-push (λ l. (p : Proc) × (runner r.state.group l.pid ≡ Some p)) r.leases _ run (next_is r.leases r.state r.taken pid b.next).1
       by_mark (Turn worker pid n) b =
           let few = few_turns limits origin small r good.0 in let quantum = small.quantum.1 in let less = steps_few limits.quantum n b.turn.within in

@@ -16,9 +16,9 @@ use Rattle.group_defs.specs.Standing.{is_durable, state_at, stepped}
 use Rattle.group_defs.specs.Step.{call_in, do_step, group_step, group_waits, is_local, is_waiting, reply_in, served}
 use Rattle.group_defs.specs.declared.frame.Proc.{Proc}
 use Rattle.run_defs.specs.Ends.{IsDone, HasEnded}
-use Rattle.run_defs.specs.Legal.{BarrierAllowed, ready}
+use Rattle.run_defs.specs.Legal.{BarrierAllowed, Legal, ready}
 use Rattle.run_defs.specs.Progress.{EachMark, Progress, progress_after, progress_at}
-use Rattle.run_laws.specs.Smallest.{default_limits, exits_at_once, exit_trace, says_hi, hi_trace, asks_in_vain, family, family_left}
+use Rattle.run_laws.specs.Smallest.{default_limits, exits_at_once, exit_trace, says_hi, hi_trace, asks_in_vain, family, family_left, two_processes, two_workers, two_workers_trace}
 use Rattle.run_defs.specs.Solo.{IsSoloTrace}
 use Rattle.run_defs.specs.Turns.{steps_of, AllLocal}
 use Rattle.run_defs.specs.declared.run.Limits.{Limits}
@@ -122,3 +122,44 @@ unknown_at rest stack = refl
 pub family_ends : (rest parents childs : List ℕ) → (steps_of (state_at 0 (family rest parents childs)) 2 3).group ≡ family_left parents childs
 unfolding runner cells_of bytes_with number_of act_of imm_by imm_i imm_u op_imm_by instr_by on_first with_writes group_step do_step is_waiting group_waits is_durable stepped steps_of reply_in served call_in ended settled system_by is_of_file maps_object is_held is_kept is_end_held
 family_ends rest parents childs = refl
+
+-- two workers' leases out at once, in a run from epoch 1
+pub two_legal : (rest others : List ℕ) → Legal (two_processes rest others) 1 two_workers two_workers_trace
+unfolding EachMark ready is_local group_waits AllLocal runner cells_of bytes_with number_of act_of imm_by imm_i imm_u op_imm_by instr_by on_first with_writes group_step do_step is_waiting is_durable stepped steps_of reply_in served call_in ended settled system_by is_of_file maps_object is_held is_kept is_end_held
+two_legal rest others = (
+    record { worker_is = omega arith; idle = refl; next = refl; interval = omega arith; turns = omega arith },
+    (
+    record { worker_is = omega arith; idle = refl; next = refl; interval = omega arith; turns = omega arith },
+    (
+    record { leased = refl; turn = record { within = omega arith; all_local = tt; no_more = λ _. refl }; moves = refl },
+    (
+    record { leased = refl; turn = record { within = omega arith; all_local = tt; no_more = λ _. refl }; moves = refl },
+    (
+    record { rises = refl; rests = record { no_lease = refl; acked = refl }; cause = record { turn = omega arith; cause = inl refl } },
+    (
+    record { made = omega arith; first = omega arith },
+    (
+    record { fetched = omega arith; first = omega arith },
+    (
+    record { worker_is = omega arith; idle = refl; next = refl; interval = omega arith; turns = omega arith },
+    (
+    record { worker_is = omega arith; idle = refl; next = refl; interval = omega arith; turns = omega arith },
+    (
+    record { leased = refl; turn = record { within = omega arith; all_local = (tt, refl); no_more = λ _. refl }; moves = refl },
+    (
+    record { leased = refl; turn = record { within = omega arith; all_local = (tt, refl); no_more = λ _. refl }; moves = refl },
+    (
+    record { rises = refl; rests = record { no_lease = refl; acked = refl }; cause = record { turn = omega arith; cause = inl refl } },
+    (
+    record { made = omega arith; first = omega arith },
+    (
+    record { fetched = omega arith; first = omega arith },
+    tt))))))))))))))
+
+pub two_done : (rest others : List ℕ) → let r = progress_after 1000 (progress_at 1 (two_processes rest others)) two_workers_trace in IsDone r.state.group
+unfolding EachMark ready is_local group_waits AllLocal runner cells_of bytes_with number_of act_of imm_by imm_i imm_u op_imm_by instr_by on_first with_writes group_step do_step is_waiting is_durable stepped steps_of reply_in served call_in ended settled system_by is_of_file maps_object is_held is_kept is_end_held
+two_done rest others = refl
+
+pub two_acked : (rest others : List ℕ) → let r = progress_after 1000 (progress_at 1 (two_processes rest others)) two_workers_trace in r.state.standing.acked ≡ 3
+unfolding EachMark ready is_local group_waits AllLocal runner cells_of bytes_with number_of act_of imm_by imm_i imm_u op_imm_by instr_by on_first with_writes group_step do_step is_waiting is_durable stepped steps_of reply_in served call_in ended settled system_by is_of_file maps_object is_held is_kept is_end_held
+two_acked rest others = refl

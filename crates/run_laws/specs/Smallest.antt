@@ -102,3 +102,21 @@ family_left parents childs = family_of
     (record { number = 0; pages = 1 } ∷ record { number = 2; pages = 1 } ∷ [])
     (record { number = 0; kind = Nothing; offset = 0; flags = 0 } ∷ [])
     ((0, parents) ∷ (2, childs) ∷ [])
+
+-- two processes of one code, in images of their own: ecall (of no call's number); li a7, 93; ecall
+abbrev pub two_processes : List ℕ → List ℕ → Group
+two_processes rest others = family_of
+    (member 1 0 0 ((0, 0) ∷ []) ∷ member 2 0 1 ((0, 0) ∷ []) ∷ [])
+    (record { number = 0; pages = 1 } ∷ record { number = 1; pages = 1 } ∷ [])
+    (record { number = 0; kind = Nothing; offset = 0; flags = 0 } ∷ [])
+    ((0, 0x73 ∷ 0x00 ∷ 0x00 ∷ 0x00 ∷ 0x93 ∷ 0x08 ∷ 0xd0 ∷ 0x05 ∷ 0x73 ∷ 0x00 ∷ 0x00 ∷ 0x00 ∷ rest)
+    ∷ (1, 0x73 ∷ 0x00 ∷ 0x00 ∷ 0x00 ∷ 0x93 ∷ 0x08 ∷ 0xd0 ∷ 0x05 ∷ 0x73 ∷ 0x00 ∷ 0x00 ∷ 0x00 ∷ others) ∷ [])
+
+-- two workers, and a barrier after two turns
+abbrev pub two_workers : Limits
+two_workers = record { turns = 1000000; quantum = 1000; every = 2; workers = 2; flushers = 1 }
+
+-- Both have a lease at once, and end their turns in either order; at the second interval the workers have changed places.
+abbrev pub two_workers_trace : List Mark
+two_workers_trace = Take 0 1 ∷ Take 1 2 ∷ Turn 1 2 0 ∷ Turn 0 1 0 ∷ Barrier 2 ∷ Fetch 2 ∷ Ack 2
+    ∷ Take 1 1 ∷ Take 0 2 ∷ Turn 1 1 1 ∷ Turn 0 2 1 ∷ Barrier 3 ∷ Fetch 3 ∷ Ack 3 ∷ []

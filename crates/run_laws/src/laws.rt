@@ -25,7 +25,7 @@ ghost use Rattle.run_defs.specs.Limits.{LimitsFit};
 ghost use Rattle.run_defs.specs.Progress.{Progress, after_mark, appended, checkpoint, checkpoint_of, group_of_epoch, is_lease, progress_after, progress_at};
 ghost use Rattle.run_laws.specs.Leases.{AreApart, AreOfRunning};
 ghost use Rattle.run_laws.specs.Order.{IsInOrder, Follows};
-ghost use Rattle.run_laws.specs.Smallest.{default_limits, exits_at_once, exit_trace, says_hi, hi_trace, asks_in_vain, family, family_left};
+ghost use Rattle.run_laws.specs.Smallest.{default_limits, exits_at_once, exit_trace, says_hi, hi_trace, asks_in_vain, family, family_left, two_processes, two_workers, two_workers_trace};
 ghost use Rattle.run_defs.specs.Solo.{IsSoloPrefix, IsSoloSoFar, IsSoloTrace};
 ghost use Rattle.run_defs.specs.Touched.{touched_with_turn};
 ghost use Rattle.run_defs.specs.Turns.{IsTurn, steps_of, turned};
@@ -206,6 +206,19 @@ pub fn end_in_a_family()
     ensures { (rest parents childs : List ℕ)
         → (steps_of (state_at 0 (family rest parents childs)) 2 3).group
         ≡ family_left parents childs }
+{}
+
+/// Two workers with a process each, from a checkpoint of epoch 1: both leases are out at once, and end in either order. After
+/// two barriers both processes have ended.
+pub fn two_workers_run()
+    ensures legal { (rest others : List ℕ)
+        → Legal (two_processes rest others) 1 two_workers two_workers_trace }
+    ensures done { (rest others : List ℕ)
+        → let r = progress_after 1000 (progress_at 1 (two_processes rest others))
+        two_workers_trace in IsDone r.state.group }
+    ensures acked { (rest others : List ℕ)
+        → let r = progress_after 1000 (progress_at 1 (two_processes rest others))
+        two_workers_trace in r.state.standing.acked ≡ 3 }
 {}
 
 /// There is at most one whole trace of a run on one thread, what such a run has logged so far is its beginning, and it comes
