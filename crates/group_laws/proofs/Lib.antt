@@ -26,7 +26,6 @@ pub mod WriteLaws
 pub mod MessageLaws
 pub mod ReceiveLaws
 pub mod PairEndsLaws
-pub mod SettledSame
 pub mod ContentLaws
 pub mod WriteFileLaws
 pub mod InstructionLaws

@@ -1,4 +1,5 @@
 pub mod FileBytes
+pub mod FilesStand
 pub mod LegalLaws
 pub mod MachineLaws
 pub mod OutputLaws
@@ -11,6 +12,7 @@ pub mod RestLaws
 pub mod WholeTraces
 pub mod Epochs
 pub mod PageLaws
+pub mod TurnPages
 pub mod Runs
 pub mod CountLaws
 pub mod MovedLaws

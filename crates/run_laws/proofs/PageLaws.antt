@@ -1,48 +1,52 @@
--- A step changes no page but those that it touches.
-use Rattle.std.proofs.Common.{◌≡◌, ◌⊎◌, ℕ, zero, suc, ◌+◌, ◌-◌, ◌*◌, ◌/◌, ◌≤◌, ◌<◌, ◌==◌, ◌&&◌, ◌||◌, not, Bool, true, false, List, [], ◌∷◌, ◌++◌, length, take, drop, Option, Some, None, refl, ap, sym, ◌∙◌, subst, arith, inl, inr}
-use Rattle.std.specs.Prelude.{if◌then◌else◌, slice_set, nat_lt, map, All}
-use Rattle.std.specs.List.{find, filter, flat_map, list_any, list_all, range_with_len, AllZip}
-use Rattle.std.proofs.lemmas.Bool.{cases_lt, eq-eqb, eqb-true}
-use Rattle.std.proofs.lemmas.List.{drop_all, drop-set-lt, drop-set-add, take-set-le}
-use Rattle.std.proofs.lemmas.List.Elements.{All-filter}
+-- What a step leaves of the pages that it doesn't touch, whichever call it makes.
+use Rattle.std.proofs.Common.{Bool, List, None, Option, Some, [], ap, arith, drop, false, inl, inr, length, map, max, refl, subst, suc, sym, take, true, zero, ℕ, ⊎_elim, ◌&&◌, ◌*◌, ◌++◌, ◌+◌, ◌-◌, ◌/◌, ◌<◌, ◌==◌, ◌^◌, ◌||◌, ◌∙◌, ◌∷◌, ◌≡◌, ◌≤◌, ◌⊎◌}
+use Rattle.std.proofs.lemmas.Bool.{eq-eqb, eqb-true, ltb-false, ltb-true}
+use Rattle.std.proofs.lemmas.List.{append-nil, drop-set-add, drop-set-lt, take-set-le}
+use Rattle.std.proofs.lemmas.List.Elements.{All-cons, All-filter, All-nil, All-push}
 use Rattle.std.proofs.lemmas.List.Folds.{list_any-append}
+use Rattle.std.specs.List.{filter_map, flat_map, list_all, list_any, range_with_len}
+use Rattle.std.specs.Prelude.{All, Any, if◌then◌else◌, nat_lt, slice_set}
+use Rattle.address_maps.specs.Cut.{cut}
+use Rattle.address_maps.specs.Mappings.{mapping_at}
+use Rattle.address_maps.specs.declared.maps.Mapping.{Mapping}
 use Rattle.descriptors.specs.declared.opens.Open.{Open}
 use Rattle.descriptors.specs.declared.opens.OpenKind.{OpenKind}
-use Rattle.descriptors.specs.declared.opens.OpenKind.TheVariants as kinds
-use Rattle.rv64_isa.specs.Instruction.{Effect, steps, calls, traps, list_of}
+use Rattle.group_defs.specs.Calls.{Reply, answers, ends, fd_of, refuses, waits}
+use Rattle.group_defs.specs.Cells.{bytes_in, object_place, sight, with_byte, with_byte_at, with_stored, with_writes}
+use Rattle.group_defs.specs.Changes.{on_caller, open_at, with_break, with_fds, with_maps, with_offset, with_open, with_pairs, with_procs, zeros}
+use Rattle.group_defs.specs.Family.{after_end, ended, without_proc}
+use Rattle.group_defs.specs.FileCalls.{emptied, openat, with_content, with_new_file, write_place}
+use Rattle.group_defs.specs.Fork.{Copy, clone, copies_from, forked, to_copy}
+use Rattle.group_defs.specs.Group.{Group, is_runner, regs_of, with_regs}
+use Rattle.group_defs.specs.Held.{is_kept, settled}
+use Rattle.group_defs.specs.MapCalls.{mapped, new_mapping}
+use Rattle.group_defs.specs.Objects.{is_of_file}
+use Rattle.group_defs.specs.Pages.{copied_page, handed_on, is_among, is_zero_page, page_at, page_bytes, pages_at, pages_between, pages_emptied, pages_of_file_write, pages_of_writes, pages_written_to, touched_beside, touched_by_effect, touched_by_reply}
+use Rattle.group_defs.specs.PairCalls.{with_new_pair}
+use Rattle.group_defs.specs.PipeCalls.{new_ends, with_new_pipe}
+use Rattle.group_defs.specs.ReadWrite.{write}
+use Rattle.group_defs.specs.Step.{after_effect, after_reply, call_in, reply_in, served, written}
+use Rattle.group_defs.specs.declared.calls.TheConstants.{ENOSYS}
+use Rattle.group_defs.specs.declared.frame.Proc.{Proc}
+use Rattle.group_files.specs.Files.{length_of, with_length}
+use Rattle.group_files.specs.declared.named_files.FileRec.{FileRec}
+use Rattle.group_laws.proofs.Lists.{any_weaker, on_first_all, true_any}
+use Rattle.group_laws.proofs.NewFileLaws.{zeros_are_zero, zeros_length}
+use Rattle.group_laws.proofs.ObjectBytes.{left_or_gone, replaced_other}
+use Rattle.group_laws.proofs.OthersBytes.{open_has}
+use Rattle.group_laws.proofs.Replies.{Leaves, Opened, Plain, call_holds, clone_leaves, openat_leaves, with_put, write_reply}
+use Rattle.group_laws.proofs.SeenLaws.{bytes_other, bytes_same}
+use Rattle.group_laws.proofs.WriteFileLaws.{zeros_behind}
+use Rattle.lists.specs.Bytes.{length-put, put}
+use Rattle.run_laws.proofs.FileBytes.{not_between, or_both, put_kept, zero_page_same, zeros_page}
+use Rattle.run_laws.proofs.FilesStand.{IsAtFile, IsContent, OfMemory, StandsIn, absent, changed_stands, content_stands, copied, copied_from, copies_from_next, cut_of, ended_stands, forked_stands, its_length, its_new_file, mapped_stands, new_file_old, new_file_stands, none_there, of_before, old_bytes, only_more, opens_stand, procs_stand, replaced_same, same_files, settled_stands, stored_stands}
+use Rattle.rv64_isa.specs.Instruction.{Effect, calls, list_of, steps, traps}
 use Rattle.rv64_isa.specs.Memory.{Write}
 use Rattle.rv64_isa.specs.Numbers.{wrapped}
-use Rattle.rv64_isa.specs.Registers.{call_number}
-use Rattle.group_laws.proofs.Lists.{on_first_all}
-use Rattle.group_laws.proofs.ObjectBytes.{left_or_gone}
-use Rattle.group_laws.proofs.OthersBytes.{open_has}
-use Rattle.group_laws.proofs.Replies.{with_put, write_reply}
-use Rattle.group_laws.proofs.SeenLaws.{bytes_same, bytes_other}
-use Rattle.group_laws.proofs.ServedLaws.{served_reply}
-use Rattle.group_defs.specs.declared.frame.ObjectRec.{ObjectRec}
-use Rattle.group_defs.specs.declared.frame.Proc.{Proc}
-use Rattle.address_maps.specs.declared.maps.Mapping.{Mapping}
-use Rattle.run_defs.specs.declared.run.Mark.{Mark}
-use Rattle.run_defs.specs.declared.run.Mark.TheVariants.{Take, Turn, Barrier, Fetch, Ack}
-use Rattle.group_defs.specs.Calls.{Reply, waits, refuses, answers, ends, fd_of}
-use Rattle.group_defs.specs.Cells.{bytes_in, with_byte, with_byte_at, with_stored, with_writes, object_place, sight}
-use Rattle.group_defs.specs.Changes.{open_at, with_offset}
-use Rattle.address_maps.specs.Mappings.{mapping_at}
-use Rattle.group_defs.specs.Family.{ended}
-use Rattle.group_defs.specs.FileCalls.{write_place}
-use Rattle.group_defs.specs.Group.{Group, runner, regs_of}
-use Rattle.group_defs.specs.Held.{settled}
-use Rattle.group_defs.specs.ReadWrite.{write}
-use Rattle.group_defs.specs.Step.{do_step, effect_in, reply_in, after_reply, after_effect, group_step}
-use Rattle.group_defs.specs.Pages.{all_pages, page_bytes, is_zero_page, nonzero_pages, page_at, pages_of, pages_at, pages_of_file_write, pages_of_writes, pages_written_to, touched_beside, touched_by_effect, touched_by_reply, touched_with_step, is_among}
-use Rattle.group_defs.specs.Valid.{GroupIsValid, IsObject}
-use Rattle.group_defs.specs.Standing.{State, is_durable}
-use Rattle.run_defs.specs.Touched.{touched_with_steps, touched_with_turn}
-use Rattle.run_defs.specs.Marks.{is_barrier}
-use Rattle.run_defs.specs.Progress.{Progress, after_mark, checkpoint, progress_after, progress_at}
-use Rattle.run_laws.proofs.TurnLaws.{step_cases}
-use Rattle.run_defs.specs.Turns.{steps_of, turned}
-use Rattle.run_laws.proofs.FileBytes.{FilesHaveBytes, HasFileBytes, KindHasBytes, file_has, file_kept, files_have_bytes, files_weaker, not_between, or_both, writes_have}
+use Rattle.rv64_isa.specs.Registers.{answered, call_number}
+use Rattle.rv64_isa.specs.declared.regs.Regs.{Regs}
+use Rattle.tables.specs.Lists.{on_first}
+use Rattle.descriptors.specs.declared.opens.OpenKind.TheVariants as kinds
 
 -- a byte stored outside a page leaves it
 set_outside : (bytes : List ℕ) (place b page : ℕ) → (place / 4096 == page) ≡ false → take 4096 (drop (4096 * page) (slice_set bytes place b)) ≡ take 4096 (drop (4096 * page) bytes)
@@ -59,7 +63,7 @@ set_outside bytes place b page other = by_side (nat_lt place (4096 * page)) refl
         subst P (sym split) (ap (take 4096) (drop-set-add (4096 * page) bytes (place - 4096 * page) b) ∙ take-set-le 4096 (drop (4096 * page) bytes) (place - 4096 * page) b far)
 
 -- a page that isn't among those of two lists is in neither
-apart : (xs ys : List (ℕ × ℕ)) (page : ℕ × ℕ) → is_among (xs ++ ys) page ≡ false → (is_among xs page ≡ false) × (is_among ys page ≡ false)
+pub apart : (xs ys : List (ℕ × ℕ)) (page : ℕ × ℕ) → is_among (xs ++ ys) page ≡ false → (is_among xs page ≡ false) × (is_among ys page ≡ false)
 apart xs ys page e = or_both (is_among xs page) (is_among ys page) (sym (list_any-append (λ p. (p.0 == page.0) && (p.1 == page.1)) xs ys) ∙ e)
 
 byte_kept : (memory : List (ℕ × List ℕ)) (object place b : ℕ) (page : ℕ × ℕ) → ((object == page.0) && (place / 4096 == page.1)) ≡ false → page_bytes (with_byte memory object place b) page ≡ page_bytes memory page
@@ -94,257 +98,388 @@ writes_kept memory maps (w ∷ ws) page e =
 abbrev pub Stays : List (ℕ × List ℕ) → List (ℕ × List ℕ) → ℕ × ℕ → Type 0
 Stays before after page = (page_bytes after page ≡ page_bytes before page) ⊎ (page_bytes after page ≡ [])
 
-none_left : (n : ℕ) → take {A = ℕ} 4096 (drop n []) ≡ []
+pub none_left : (n : ℕ) → take {A = ℕ} 4096 (drop n []) ≡ []
 none_left zero = refl
 none_left (suc n) = refl
 
-end_stays : (g : Group) (p : Proc) (status : ℕ) (page : ℕ × ℕ) → Stays g.memory (ended g p status).memory page
-unfolding ended settled
-end_stays g p status page = by_side (left_or_gone _ page.0 g.memory)
-  where
-    by_side : (bytes_in (ended g p status).memory page.0 ≡ bytes_in g.memory page.0) ⊎ (bytes_in (ended g p status).memory page.0 ≡ []) → Stays g.memory (ended g p status).memory page
-    by_side (inl e) = inl (ap (λ (bytes : List ℕ). take 4096 (drop (4096 * page.1) bytes)) e)
-    by_side (inr e) = inr (ap (λ (bytes : List ℕ). take 4096 (drop (4096 * page.1) bytes)) e ∙ none_left (4096 * page.1))
-
--- What a reply leaves: files have their bytes, and a page that the call doesn't touch stays.
-unfoldable ReplyStays : Group → Proc → List (ℕ × ℕ) → ℕ → Reply Group → Type 0
-ReplyStays g p so_far number waits = Unit {0}
-ReplyStays g p so_far number (refuses errno) = Unit {0}
-ReplyStays g p so_far number (answers value h writes) = FilesHaveBytes h.frame.opens h.memory × ((page : ℕ × ℕ) → is_among (touched_beside g p so_far number value h) page ≡ false → page_bytes h.memory page ≡ page_bytes g.memory page)
-ReplyStays g p so_far number (ends status) = Unit {0}
-
-module _ (durable : Bool) (g : Group) (p : Proc) (so_far : List (ℕ × ℕ)) (has : FilesHaveBytes g.frame.opens g.memory) where
-  put_stays : (o : Open) → open_at p.fds g.frame.opens (fd_of (regs_of p)) ≡ Some o → (object : ℕ) → o.kind ≡ kinds.File object → (bytes : List ℕ) → write_place g o object + length bytes ≤ 1048576
-      → ReplyStays g p so_far 64 (answers (length bytes) (with_put g o object (write_place g o object) bytes) [])
-  unfolding ReplyStays touched_beside KindHasBytes
-  put_stays o at object is bytes within =
-      let place = write_place g o object in
-      let its : HasFileBytes object g.memory = (let P : OpenKind → Type 0 = λ k. KindHasBytes g.memory k in subst P is (open_has (λ x. KindHasBytes g.memory x.kind) p.fds g.frame.opens (fd_of (regs_of p)) o has at)) in
-      let moved : FilesHaveBytes (with_offset g.frame.opens o.number (place + length bytes)) g.memory = on_first_all (λ (x : Open). x.number == o.number) (λ x. record x { offset = place + length bytes }) (λ x. KindHasBytes g.memory x.kind) g.frame.opens (λ x found old. old) has in (
-        files_weaker (with_offset g.frame.opens o.number (place + length bytes)) g.memory (with_put g o object place bytes).memory (file_has g.memory object place bytes within its) moved,
-        λ page e.
-            let Of : Option Open → Type 0 = λ x. is_among (pages_written_to g (length bytes) x) page ≡ false in
-            let Kind : OpenKind → Type 0 = λ k. is_among (pages_of_file_write g o (length bytes) k) page ≡ false in
-            file_kept g.memory object place bytes within its page (subst Kind is (subst Of at e)),
-      )
-
-  write_stays : ReplyStays g p so_far 64 (write g p (sight g p) (regs_of p))
-  unfolding ReplyStays
-  write_stays = write_reply (ReplyStays g p so_far 64) g (sight g p) tt (λ errno. tt) (has, λ page e. refl) (λ bytes few. (has, λ page e. refl)) (λ value pipes. (has, λ page e. refl)) (λ value pairs. (has, λ page e. refl)) p (regs_of p) put_stays
-
-  reply_stays : (number : ℕ) → ReplyStays g p so_far number (reply_in durable g p number)
-  unfolding ReplyStays
-  reply_stays number = served_reply (λ n r. ReplyStays g p so_far n r) durable g p write_stays tt tt (λ n none. tt) number
-
-  ended_has : (status : ℕ) → FilesHaveBytes (ended g p status).frame.opens (ended g p status).memory
-  unfolding ended settled
-  ended_has status =
-      files_weaker (ended g p status).frame.opens g.memory (ended g p status).memory (λ object old. All-filter _ (λ (e : ℕ × List ℕ). e.0 ≡ object → 1048576 ≤ length e.1) g.memory old)
-      (All-filter _ (λ (o : Open). KindHasBytes g.memory o.kind) g.frame.opens has)
-
-  -- the group after a step: files have their bytes, and each page not touched stays
-  abbrev StepStays : List (ℕ × ℕ) → Group → Type 0
-  StepStays touched h = FilesHaveBytes h.frame.opens h.memory × ((page : ℕ × ℕ) → is_among touched page ≡ false → Stays g.memory h.memory page)
-
-  stored_stays : (h : Group) (beside : List (ℕ × ℕ)) (writes : List Write) → FilesHaveBytes h.frame.opens h.memory → ((page : ℕ × ℕ) → is_among beside page ≡ false → page_bytes h.memory page ≡ page_bytes g.memory page)
-      → FilesHaveBytes h.frame.opens (with_writes h.memory p.maps writes) × ((page : ℕ × ℕ) → is_among (pages_of_writes p.maps writes ++ beside) page ≡ false → Stays g.memory (with_writes h.memory p.maps writes) page)
-  stored_stays h beside writes files stay = (
-    files_weaker h.frame.opens h.memory (with_writes h.memory p.maps writes) (writes_have h.memory p.maps writes) files,
-    λ page e. let parts = apart (pages_of_writes p.maps writes) beside page e in inl (writes_kept h.memory p.maps writes page parts.0 ∙ stay page parts.1),
-  )
-
-  by_reply : (number : ℕ) (r : Reply Group) → ReplyStays g p so_far number r → StepStays (touched_by_reply g p so_far number r) (after_reply g p r)
-  unfolding ReplyStays
-  by_reply number waits s = (has, λ page e. inl refl)
-  by_reply number (refuses errno) s = (has, λ page e. inl refl)
-  by_reply number (answers value h writes) s = stored_stays h (touched_beside g p so_far number value h) writes s.0 s.1
-  by_reply number (ends status) s = (ended_has status, λ page e. end_stays g p status page)
-
-  by_effect : (e : Effect) → StepStays (touched_by_effect durable g p so_far e) (after_effect durable g p e)
-  by_effect (steps r stored) = (
-    files_weaker g.frame.opens g.memory (with_writes g.memory p.maps (list_of stored)) (writes_have g.memory p.maps (list_of stored)) has,
-    λ page e. inl (writes_kept g.memory p.maps (list_of stored) page e),
-  )
-  by_effect calls = by_reply (call_number (regs_of p)) (reply_in durable g p (call_number (regs_of p))) (reply_stays (call_number (regs_of p)))
-  by_effect (traps status) = (ended_has status, λ page e. end_stays g p status page)
-
--- what is touched stays touched
-step_before : (durable : Bool) (g : Group) (pid : ℕ) (so_far : List (ℕ × ℕ)) (page : ℕ × ℕ) → is_among (touched_with_step durable g pid so_far) page ≡ false → is_among so_far page ≡ false
-unfolding touched_with_step
-step_before durable g pid so_far page e = (apart so_far _ page e).0
-
-steps_before : (s : State) (pid n : ℕ) (so_far : List (ℕ × ℕ)) (page : ℕ × ℕ) → is_among (touched_with_steps s pid n so_far) page ≡ false → is_among so_far page ≡ false
-unfolding touched_with_steps
-steps_before s pid zero so_far page e = e
-steps_before s pid (suc n) so_far page e = steps_before s pid n so_far page (step_before _ (steps_of s pid n).group pid (touched_with_steps s pid n so_far) page e)
-
-pub turn_touches : (quantum : ℕ) (s : State) (pid n : ℕ) (so_far : List (ℕ × ℕ)) (page : ℕ × ℕ) → is_among so_far page ≡ true → is_among (touched_with_turn quantum s pid n so_far) page ≡ true
-turn_touches quantum s pid n so_far page before = by_after (is_among (touched_with_turn quantum s pid n so_far) page) refl
-  where
-    by_after : (t : Bool) → is_among (touched_with_turn quantum s pid n so_far) page ≡ t → t ≡ true
-    by_after true e = refl
-    by_after false e = let over : is_among so_far page ≡ false = steps_before s pid _ so_far page e in cc
-
--- What some steps leave: files have their bytes, and a page that isn't touched stays or its object has gone.
-record Leaves (g h : Group) (touched : List (ℕ × ℕ)) : Type 0 where
-  pub files : FilesHaveBytes h.frame.opens h.memory
-  pub stays : (page : ℕ × ℕ) → is_among touched page ≡ false → Stays g.memory h.memory page
-
-step_leaves : (durable : Bool) (g : Group) (pid : ℕ) (so_far : List (ℕ × ℕ)) → FilesHaveBytes g.frame.opens g.memory → Leaves g (group_step durable g pid) (touched_with_step durable g pid so_far)
-unfolding group_step touched_with_step
-step_leaves durable g pid so_far has = found (runner g pid)
-  where
-    touched : Option Proc → List (ℕ × ℕ)
-    touched o = elim o [ None ↦ [] | Some p ↦ touched_by_effect durable g p so_far (effect_in g p) ]
-
-    result : Option Proc → Group
-    result o = elim o [ None ↦ g | Some p ↦ after_effect durable g p (effect_in g p) ]
-
-    found : (o : Option Proc) → Leaves g (result o) (so_far ++ touched o)
-    found None = record { files = has; stays = λ page e. inl refl }
-    found (Some p) =
-        let s = by_effect durable g p so_far has (effect_in g p) in
-        record { files = s.0; stays = λ page e. s.1 page (apart so_far (touched_by_effect durable g p so_far (effect_in g p)) page e).1 }
-
-stays_then : (a b c : List (ℕ × List ℕ)) (page : ℕ × ℕ) → Stays a b page → Stays b c page → Stays a c page
+pub stays_then : (a b c : List (ℕ × List ℕ)) (page : ℕ × ℕ) → Stays a b page → Stays b c page → Stays a c page
 stays_then a b c page x (inr gone) = inr gone
 stays_then a b c page (inl e) (inl f) = inl (f ∙ e)
 stays_then a b c page (inr gone) (inl f) = inr (f ∙ gone)
 
--- one more step
-one_more : (g : Group) (s : State) (pid : ℕ) (so_far : List (ℕ × ℕ)) → Leaves g s.group so_far → Leaves g (do_step s pid).group (touched_with_step (is_durable s.standing pid) s.group pid so_far)
-one_more g s pid so_far first =
-    let d = is_durable s.standing pid in
-    let second = step_leaves d s.group pid so_far first.files in
-    step_cases (λ t. Leaves g t.group (touched_with_step d s.group pid so_far)) s pid
-    (record { files = first.files; stays = λ page e. first.stays page (step_before d s.group pid so_far page e) })
-    (record { files = second.files; stays = λ page e. stays_then g.memory s.group.memory (group_step d s.group pid).memory page (first.stays page (step_before d s.group pid so_far page e)) (second.stays page e) })
+both_false : (a b : Bool) → (a ≡ false) ⊎ (b ≡ false) → (a && b) ≡ false
+both_false false b e = refl
+both_false true false e = refl
+both_false true true (inl e) = e
+both_false true true (inr e) = e
 
-steps_leave : (s : State) (pid n : ℕ) (so_far : List (ℕ × ℕ)) → FilesHaveBytes s.group.frame.opens s.group.memory → Leaves s.group (steps_of s pid n).group (touched_with_steps s pid n so_far)
-unfolding steps_of touched_with_steps
-steps_leave s pid zero so_far has = record { files = has; stays = λ page e. inl refl }
-steps_leave s pid (suc n) so_far has = one_more s.group (steps_of s pid n) pid (touched_with_steps s pid n so_far) (steps_leave s pid n so_far has)
+-- a page of an object, by the object's bytes
+abbrev part : ℕ → List ℕ → List ℕ
+part page bytes = take 4096 (drop (4096 * page) bytes)
 
--- a turn in a valid group changes no page that it doesn't touch
-pub turn_stays : (quantum : ℕ) (s : State) (pid n : ℕ) (so_far : List (ℕ × ℕ)) (page : ℕ × ℕ) → GroupIsValid s.group → is_among (touched_with_turn quantum s pid n so_far) page ≡ false → Stays s.group.memory (turned quantum s pid n).group.memory page
-turn_stays quantum s pid n so_far page valid = (steps_leave s pid _ so_far (files_have_bytes s.group valid)).stays page
+-- a page of an object that is new: it has zeros, or it is the copy of a page that wasn't touched
+abbrev pub IsNew : Group → List (ℕ × ℕ) → List (ℕ × List ℕ) → ℕ × ℕ → Type 0
+IsNew g so_far memory page = (is_zero_page memory page ≡ true) ⊎ ((k : ℕ) × (page_bytes memory page ≡ page_bytes g.memory (k, page.1)) × (is_among so_far (k, page.1) ≡ false))
 
--- The pages that aren't all zero are among those touched so far.
-abbrev Covers : List (ℕ × ℕ) → Group → Type 0
-Covers so_far g = (page : ℕ × ℕ) → is_zero_page g.memory page ≡ false → is_among so_far page ≡ true
+-- What a step leaves of the pages that it doesn't touch.
+pub record Follows (g : Group) (so_far touched : List (ℕ × ℕ)) (next : ℕ) (memory : List (ℕ × List ℕ)) : Type 0 where
+  pub rises : g.frame.next.object ≤ next
+  pub old : (page : ℕ × ℕ) → is_among touched page ≡ false → page.0 < g.frame.next.object → Stays g.memory memory page
+  pub new : (page : ℕ × ℕ) → is_among touched page ≡ false → g.frame.next.object ≤ page.0 → IsNew g so_far memory page
 
--- a place of a run from a group whose files have their bytes, before its first barrier
-record IsCovered (r : Progress) : Type 0 where
-  files : FilesHaveBytes r.state.group.frame.opens r.state.group.memory
-  covers : Covers r.touched r.state.group
+-- an object that was there before, or may have been, is a file's afterwards only where it was one before
+abbrev pub OldFiles : Group → Group → Type 0
+OldFiles g h = (n : ℕ) → n < g.frame.next.object → is_of_file h.frame.files n ≡ true → is_of_file g.frame.files n ≡ true
 
-covers_turn : (quantum : ℕ) (s : State) (pid n : ℕ) (so_far : List (ℕ × ℕ)) → FilesHaveBytes s.group.frame.opens s.group.memory → Covers so_far s.group → Covers (touched_with_turn quantum s pid n so_far) (turned quantum s pid n).group
-covers_turn quantum s pid n so_far has covers page some = by_touch (is_among (touched_with_turn quantum s pid n so_far) page) refl
-  where
-    kept : Stays s.group.memory (turned quantum s pid n).group.memory page → is_among so_far page ≡ true
-    kept (inl same) = covers page (ap (λ (bytes : List ℕ). list_all (λ b. b == 0) bytes) (sym same) ∙ some)
-    kept (inr gone) = let zero_page : is_zero_page (turned quantum s pid n).group.memory page ≡ true = ap (λ (bytes : List ℕ). list_all (λ b. b == 0) bytes) gone in absurd (cc)
+abbrev pub StepLeaves : Group → List (ℕ × ℕ) → List (ℕ × ℕ) → Group → Type 0
+StepLeaves g so_far touched h = StandsIn h × Follows g so_far touched h.frame.next.object h.memory × OldFiles g h
 
-    by_touch : (t : Bool) → is_among (touched_with_turn quantum s pid n so_far) page ≡ t → t ≡ true
-    by_touch true e = refl
-    by_touch false e = let before = steps_before s pid _ so_far page e in let covered = kept ((steps_leave s pid _ so_far has).stays page e) in absurd (cc)
+-- where all pages follow, those follow that aren't touched
+all_follow : (g : Group) (so_far touched : List (ℕ × ℕ)) (next : ℕ) (memory : List (ℕ × List ℕ)) → Follows g so_far [] next memory → Follows g so_far touched next memory
+all_follow g so_far touched next memory f = record { rises = f.rises; old = λ page e lt. f.old page refl lt; new = λ page e le. f.new page refl le }
 
-covered_mark : (quantum : ℕ) (r : Progress) (m : Mark) → is_barrier m ≡ false → IsCovered r → IsCovered (after_mark quantum r m)
-covered_mark quantum r (Take worker pid) none c = record { files = c.files; covers = c.covers }
-covered_mark quantum r (Turn worker pid n) none c = record { files = (steps_leave r.state pid _ r.touched c.files).files; covers = covers_turn quantum r.state pid n r.touched c.files c.covers }
-covered_mark quantum r (Barrier epoch) none c = absurd (cc)
-covered_mark quantum r (Fetch epoch) none c = record { files = c.files; covers = c.covers }
-covered_mark quantum r (Ack epoch) none c = record { files = c.files; covers = c.covers }
+zero_page : (memory : List (ℕ × List ℕ)) (page : ℕ × ℕ) → bytes_in memory page.0 ≡ [] → is_zero_page memory page ≡ true
+zero_page memory page e = ap (λ (bs : List ℕ). list_all (λ b. b == 0) (take 4096 (drop (4096 * page.1) bs))) e ∙ ap (λ (bs : List ℕ). list_all (λ b. b == 0) bs) (none_left (4096 * page.1))
 
-covered_after : (quantum : ℕ) (r : Progress) (marks : List Mark) → list_any is_barrier marks ≡ false → IsCovered r → IsCovered (progress_after quantum r marks)
-covered_after quantum r [] none c = c
-covered_after quantum r (m ∷ ms) none c = let parts = or_both (is_barrier m) (list_any is_barrier ms) none in covered_after quantum (after_mark quantum r m) ms parts.1 (covered_mark quantum r m parts.0 c)
+-- where a page isn't among those touched by more, it isn't among those touched
+pub fewer_follow : (g : Group) (so_far touched more : List (ℕ × ℕ)) (next : ℕ) (memory : List (ℕ × List ℕ)) → ((page : ℕ × ℕ) → is_among more page ≡ false → is_among touched page ≡ false) → Follows g so_far touched next memory → Follows g so_far more next memory
+fewer_follow g so_far touched more next memory fewer f = record { rises = f.rises; old = λ page e lt. f.old page (fewer page e) lt; new = λ page e le. f.new page (fewer page e) le }
 
-same_pair : (x y : ℕ × ℕ) → x.0 ≡ y.0 → x.1 ≡ y.1 → x ≡ y
-same_pair x y first second = let pair : ℕ → ℕ → ℕ × ℕ = λ a b. (a, b) in ap (λ (a : ℕ). pair a x.1) first ∙ ap (pair y.0) second
+-- where nothing is changed
+none_changed : (g : Group) (so_far : List (ℕ × ℕ)) → StandsIn g → Follows g so_far [] g.frame.next.object g.memory
+none_changed g so_far s = record { rises = omega arith; old = λ page e lt. inl refl; new = λ page e le. inl (zero_page g.memory page (absent g.frame.next.object g.memory page.0 s.numbers le)) }
 
-not_true : (b : Bool) → not b ≡ true → b ≡ false
-not_true true e = absurd (cc)
-not_true false e = refl
+pub nothing_leaves : (g : Group) (so_far touched : List (ℕ × ℕ)) → StandsIn g → StepLeaves g so_far touched g
+nothing_leaves g so_far touched s = (s, all_follow g so_far touched g.frame.next.object g.memory (none_changed g so_far s), λ n lt e. e)
 
-among_filter : (t : ℕ × ℕ → Bool) (xs : List (ℕ × ℕ)) (page : ℕ × ℕ) → is_among (filter t xs) page ≡ true → (t page ≡ true) × (is_among xs page ≡ true)
-among_filter t [] page e = absurd (cc)
-among_filter t (x ∷ xs) page e = by_test (t x) ((x.0 == page.0) && (x.1 == page.1)) refl refl (among_filter t xs page) e
-  where
-    here : ((x.0 == page.0) && (x.1 == page.1)) ≡ true → x ≡ page
-    here h = let first : x.0 ≡ page.0 = grind (arith, h) in let second : x.1 ≡ page.1 = grind (arith, h) in same_pair x page first second
+module _ (g : Group) (p : Proc) (so_far : List (ℕ × ℕ)) (s : StandsIn g) (mine : OfMemory g.frame.next.object g.frame.files p.maps) where
+  abbrev next : ℕ
+  next = g.frame.next.object
 
-    or_true : (b : Bool) → (b || true) ≡ true
-    or_true true = refl
-    or_true false = refl
+  same_follow : Follows g so_far [] next g.memory
+  same_follow = none_changed g so_far s
 
-    by_test : (b u : Bool) → t x ≡ b → ((x.0 == page.0) && (x.1 == page.1)) ≡ u → (is_among (filter t xs) page ≡ true → (t page ≡ true) × (is_among xs page ≡ true)) → is_among (if b then x ∷ filter t xs else filter t xs) page ≡ true → (t page ≡ true) × ((((x.0 == page.0) && (x.1 == page.1)) || is_among xs page) ≡ true)
-    by_test true true k h rest e = (ap t (sym (here h)) ∙ k, ap (λ b. b || is_among xs page) h)
-    by_test true false k h rest e = let r = rest (ap (λ b. b || is_among (filter t xs) page) (sym h) ∙ e) in (r.0, ap (λ b. b || is_among xs page) h ∙ r.1)
-    by_test false u k h rest e = let r = rest e in (r.0, ap (λ b. ((x.0 == page.0) && (x.1 == page.1)) || b) r.1 ∙ or_true ((x.0 == page.0) && (x.1 == page.1)))
+  settled_follow : (touched : List (ℕ × ℕ)) (h : Group) → Follows g so_far touched h.frame.next.object h.memory → Follows g so_far touched h.frame.next.object (settled h).memory
+  unfolding settled
+  settled_follow touched h f = record {
+    rises = f.rises;
+    old = λ page e lt. stays_then g.memory h.memory (settled h).memory page (f.old page e lt) (stays page);
+    new = λ page e le. by_new page (f.new page e le) (stays page);
+  }
+    where
+      stays : (page : ℕ × ℕ) → Stays h.memory (settled h).memory page
+      stays page = ⊎_elim (λ e. inl (ap (part page.1) e)) (λ e. inr (ap (part page.1) e ∙ none_left (4096 * page.1))) (left_or_gone (λ k. is_kept h.frame.files h.frame.procs k) page.0 h.memory)
 
-in_filter : (t : ℕ × ℕ → Bool) (xs : List (ℕ × ℕ)) (page : ℕ × ℕ) → t page ≡ true → is_among xs page ≡ true → is_among (filter t xs) page ≡ true
-in_filter t [] page k e = absurd (cc)
-in_filter t (x ∷ xs) page k e = by_test (t x) ((x.0 == page.0) && (x.1 == page.1)) refl refl (in_filter t xs page k) e
-  where
-    here : ((x.0 == page.0) && (x.1 == page.1)) ≡ true → x ≡ page
-    here h = let first : x.0 ≡ page.0 = grind (arith, h) in let second : x.1 ≡ page.1 = grind (arith, h) in same_pair x page first second
+      by_new : (page : ℕ × ℕ) → IsNew g so_far h.memory page → Stays h.memory (settled h).memory page → IsNew g so_far (settled h).memory page
+      by_new page n (inr gone) = inl (ap (λ (bs : List ℕ). list_all (λ b. b == 0) bs) gone)
+      by_new page (inl none) (inl e) = inl (ap (λ (bs : List ℕ). list_all (λ b. b == 0) bs) e ∙ none)
+      by_new page (inr (k, is, untouched)) (inl e) = inr (k, e ∙ is, untouched)
 
-    by_test : (b u : Bool) → t x ≡ b → ((x.0 == page.0) && (x.1 == page.1)) ≡ u → (is_among xs page ≡ true → is_among (filter t xs) page ≡ true) → (u || is_among xs page) ≡ true → is_among (if b then x ∷ filter t xs else filter t xs) page ≡ true
-    by_test true true f h rest e = ap (λ b. b || is_among (filter t xs) page) h
-    by_test true false f h rest e = ap (λ b. b || is_among (filter t xs) page) h ∙ rest e
-    by_test false true f h rest e = let over : t x ≡ true = ap t (here h) ∙ k in absurd (cc)
-    by_test false false f h rest e = rest e
+  one_more_follows : (pages : ℕ) → Follows g so_far [] (next + 1) (g.memory ++ (next, zeros (4096 * pages)) ∷ [])
+  one_more_follows pages = record {
+    rises = omega arith;
+    old = λ page e lt. inl (ap (part page.1) (old_bytes g 1 more from s page.0 lt));
+    new = λ page e le. inl (ap (λ (bs : List ℕ). list_all (λ b. b == 0) (part page.1 bs)) (only_more g.memory more page.0 (none_there next g.memory page.0 s.numbers le)) ∙ by_test page (next == page.0));
+  }
+    where
+      more : List (ℕ × List ℕ)
+      more = (next, zeros (4096 * pages)) ∷ []
 
-or_true : (b : Bool) → (b || true) ≡ true
-or_true true = refl
-or_true false = refl
+      from : All (λ o. (next ≤ o.0) × (o.0 < next + 1)) more
+      from = All-cons (λ o. (next ≤ o.0) × (o.0 < next + 1)) (next, zeros (4096 * pages)) [] (omega arith, omega arith) (All-nil (λ o. (next ≤ o.0) × (o.0 < next + 1)))
 
--- in a valid group each page that isn't all zero is one of its pages
-in_object : (object page count : ℕ) → page < count → is_among (map (λ k. (object, k)) (range_with_len 0 count)) (object, page) ≡ true
-in_object object page count lt = by_test (is_among (map (λ k. (object, k)) (range_with_len 0 count)) (object, page)) refl
-  where
-    nowhere : (page < 0) ⊎ (0 + count ≤ page) → ⊥
-    nowhere (inl below) = omega (arith, below)
-    nowhere (inr above) = omega (arith, above, lt)
+      by_test : (page : ℕ × ℕ) (b : Bool) → list_all (λ b. b == 0) (part page.1 (elim (if◌then◌else◌ {A = Option (ℕ × List ℕ)} b (Some (next, zeros (4096 * pages))) None) as (λ z. List ℕ) [ None ↦ [] | Some x ↦ x.1 ])) ≡ true
+      by_test page true = zeros_page (4096 * pages) page.1
+      by_test page false = ap (λ (bs : List ℕ). list_all (λ b. b == 0) bs) (none_left (4096 * page.1))
 
-    by_test : (b : Bool) → is_among (map (λ k. (object, k)) (range_with_len 0 count)) (object, page) ≡ b → b ≡ true
-    by_test true is = refl
-    by_test false is = absurd (nowhere (not_between object page 0 count is))
+  -- other bytes of a file
+  content_follows : (object : ℕ) (bytes : List ℕ) (touched : List (ℕ × ℕ)) → is_of_file g.frame.files object ≡ true → ((k : ℕ) → is_among touched (object, k) ≡ false → part k bytes ≡ part k (bytes_in g.memory object))
+      → Follows g so_far touched next (on_first {A = ℕ × List ℕ} (λ o. o.0 == object) (λ o. (o.0, bytes)) g.memory)
+  content_follows object bytes touched file each = record {
+    rises = omega arith;
+    old = λ page e lt. inl (by_test page e (object == page.0) refl);
+    new = λ page e le. inl (zero_page memory page (replaced_other g.memory object bytes page.0 (above page.0 le) ∙ absent next g.memory page.0 s.numbers le));
+  }
+    where
+      memory : List (ℕ × List ℕ)
+      memory = on_first {A = ℕ × List ℕ} (λ o. o.0 == object) (λ o. (o.0, bytes)) g.memory
 
-page_is_there : (objects : List ObjectRec) (memory : List (ℕ × List ℕ)) (page : ℕ × ℕ) → AllZip IsObject objects memory → is_zero_page memory page ≡ false → is_among (flat_map pages_of objects) page ≡ true
-page_is_there [] [] page zip some = let zero_page : is_zero_page [] page ≡ true = ap (λ (bytes : List ℕ). list_all (λ b. b == 0) bytes) (none_left (4096 * page.1)) in absurd (cc)
-page_is_there [] (e ∷ es) page zip some = absurd zip
-page_is_there (o ∷ os) [] page zip some = absurd zip
-page_is_there (o ∷ os) (e ∷ es) page zip some = joined ∙ by_test (e.0 == page.0) refl (page_is_there os es page zip.1)
-  where
-    joined : is_among (pages_of o ++ flat_map pages_of os) page ≡ (is_among (pages_of o) page || is_among (flat_map pages_of os) page)
-    joined = list_any-append (λ p. (p.0 == page.0) && (p.1 == page.1)) (pages_of o) (flat_map pages_of os)
+      above : (n : ℕ) → next ≤ n → (object == n) ≡ false
+      above n le = by_number (object == n) refl
+        where
+          by_number : (b : Bool) → (object == n) ≡ b → b ≡ false
+          by_number false e = refl
+          by_number true e = let same = eqb-true object n e in let less = s.below object file in absurd (omega (arith, same, less, le))
 
-    inside : e.0 ≡ page.0 → (page.1 < o.pages) ⊎ (o.pages ≤ page.1) → is_among (pages_of o) page ≡ true
-    inside same (inl lt) = let its : o.number ≡ page.0 = sym zip.0.0 ∙ same in let P : ℕ → Type 0 = λ n. is_among (pages_of o) (n, page.1) ≡ true in subst P its (in_object o.number page.1 o.pages lt)
-    inside same (inr le) =
-        let hit : (e.0 == page.0) ≡ true = eq-eqb e.0 page.0 same in
-        let bytes : bytes_in (e ∷ es) page.0 ≡ e.1 = rw (bytes_in, hit) refl in
-        let size = zip.0.1 in
-        let none : drop (4096 * page.1) e.1 ≡ [] = drop_all (4096 * page.1) e.1 (omega (arith, size, le)) in
-        let zero_page : is_zero_page (e ∷ es) page ≡ true = ap (λ (bs : List ℕ). list_all (λ b. b == 0) (take 4096 (drop (4096 * page.1) bs))) bytes ∙ ap (λ (bs : List ℕ). list_all (λ b. b == 0) (take 4096 bs)) none in
-        absurd (cc)
+      by_test : (page : ℕ × ℕ) → is_among touched page ≡ false → (b : Bool) → (object == page.0) ≡ b → page_bytes memory page ≡ page_bytes g.memory page
+      by_test page e false other = ap (part page.1) (replaced_other g.memory object bytes page.0 other)
+      by_test page e true hit =
+          let here : object ≡ page.0 = eqb-true object page.0 hit in
+          let P : ℕ → Type 0 = λ n. part page.1 (bytes_in memory n) ≡ part page.1 (bytes_in g.memory n) in
+          let Q : ℕ → Type 0 = λ n. is_among touched (n, page.1) ≡ false in
+          subst P here (ap (part page.1) (replaced_same g.memory object bytes (let size = (s.contents object file).0 in omega (arith, size))) ∙ each page.1 (subst Q (sym here) e))
 
-    by_test : (b : Bool) → (e.0 == page.0) ≡ b → (is_zero_page es page ≡ false → is_among (flat_map pages_of os) page ≡ true) → (is_among (pages_of o) page || is_among (flat_map pages_of os) page) ≡ true
-    by_test true hit rest = ap (λ t. t || is_among (flat_map pages_of os) page) (inside (eqb-true e.0 page.0 hit) (cases_lt page.1 o.pages))
-    by_test false miss rest =
-        let bytes : bytes_in (e ∷ es) page.0 ≡ bytes_in es page.0 = rw (bytes_in, miss) refl in
-        let later = rest (ap (λ (bs : List ℕ). list_all (λ b. b == 0) (take 4096 (drop (4096 * page.1) bs))) (sym bytes) ∙ some) in
-        ap (λ t. is_among (pages_of o) page || t) later ∙ or_true (is_among (pages_of o) page)
+  -- What the calls leave that name no pages.
+  abbrev Plainly : Group → Type 0
+  Plainly h = StepLeaves g so_far [] h
 
--- At a new disk's first barrier each page that isn't all zero is touched.
-pub first_has_all : (quantum : ℕ) (start : Group) (marks : List Mark) (epoch : ℕ) → GroupIsValid start → list_any is_barrier marks ≡ false →
-    (page : ℕ × ℕ) → let r = progress_after quantum (progress_at 0 start) marks in is_among (nonzero_pages r.state.group) page ≡ true → is_among (checkpoint r epoch).touched page ≡ true
-unfolding nonzero_pages all_pages
-first_has_all quantum start marks epoch valid none page e =
-    let r = progress_after quantum (progress_at 0 start) marks in
-    let at_start : Covers (nonzero_pages start) start = λ page some. in_filter (λ page. not (is_zero_page start.memory page)) (all_pages start.frame) page (ap not some) (page_is_there start.frame.objects start.memory page valid.sound.memory.bytes some) in
-    let c = covered_after quantum (progress_at 0 start) marks none (record { files = files_have_bytes start valid; covers = at_start }) in
-    let found = among_filter (λ page. not (is_zero_page r.state.group.memory page)) (all_pages r.state.group.frame) page e in
-    in_filter (is_among r.touched) (all_pages r.state.group.frame) page (c.covers page (not_true (is_zero_page r.state.group.memory page) found.0)) found.1
+  old_files : OldFiles g g
+  old_files n lt e = e
+
+  with_caller : (h : Group) (f : Proc → Proc) → ((q : Proc) → (f q).maps ≡ q.maps) → StandsIn h → StandsIn (on_caller h p f)
+  with_caller h f same t = changed_stands h (is_runner p.pid) f (λ q old. subst (OfMemory h.frame.next.object h.frame.files) (sym (same q)) old) t
+
+  two_ends : (a b : OpenKind) → IsAtFile g.frame.files a → IsAtFile g.frame.files b → All (λ o. IsAtFile g.frame.files o.kind) (new_ends g a b).frame.opens
+  two_ends a b is_a is_b =
+      let n = g.frame.next.descr in
+      All-push (λ (o : Open). IsAtFile g.frame.files o.kind) (g.frame.opens ++ record { number = n; kind = a; offset = 0; flags = 0 } ∷ []) (record { number = n + 1; kind = b; offset = 0; flags = 0 })
+      (All-push (λ (o : Open). IsAtFile g.frame.files o.kind) g.frame.opens (record { number = n; kind = a; offset = 0; flags = 0 }) s.described is_a) is_b
+
+  plain_follow : Plain g p Plainly
+  unfolding settled
+  plain_follow =
+      let fds : (list : List (ℕ × ℕ)) (h : Group) → StandsIn h → StandsIn (with_fds h p list) = λ list h t. with_caller h (λ q. record q { fds = list }) (λ q. refl) t in
+      let maps : (start pages : ℕ) → StandsIn (with_maps g p (cut p.maps start pages)) = λ start pages. changed_stands g (is_runner p.pid) (λ q. record q { maps = cut p.maps start pages }) (λ q old. cut_of next g.frame.files p.maps start pages mine) s in
+      let break : (brk : ℕ) (h : Group) → StandsIn h → StandsIn (with_break h p brk) = λ brk h t. with_caller h (λ q. record q { brk = brk }) (λ q. refl) t in
+      record {
+        same = (s, same_follow, old_files);
+        fds = λ list. (fds list g s, same_follow, old_files);
+        closed = λ list. (settled_stands (with_fds g p list) (fds list g s), settled_follow [] (with_fds g p list) same_follow, old_files);
+        offsets = λ number offset. (opens_stand g (with_offset g.frame.opens number offset) (on_first_all (λ (o : Open). o.number == number) (λ o. record o { offset = offset }) (λ o. IsAtFile g.frame.files o.kind) g.frame.opens (λ o found old. old) s.described) s, same_follow, old_files);
+        pipes = λ pipes. (s, same_follow, old_files);
+        pairs = λ pairs. (s, same_follow, old_files);
+        dropped = λ pairs. (settled_stands (with_pairs g pairs) s, settled_follow [] (with_pairs g pairs) same_follow, old_files);
+        received = λ pairs list. (fds list g s, same_follow, old_files);
+        new_pipe = λ list. (fds list (new_ends (with_new_pipe g) (kinds.PipeRead g.frame.next.pipe) (kinds.PipeWrite g.frame.next.pipe)) (opens_stand g (new_ends g (kinds.PipeRead g.frame.next.pipe) (kinds.PipeWrite g.frame.next.pipe)).frame.opens (two_ends (kinds.PipeRead g.frame.next.pipe) (kinds.PipeWrite g.frame.next.pipe) tt tt) s), same_follow, old_files);
+        new_pair = λ list. (fds list (new_ends (with_new_pair g) (kinds.PairEnd g.frame.next.pair 0) (kinds.PairEnd g.frame.next.pair 1)) (opens_stand g (new_ends g (kinds.PairEnd g.frame.next.pair 0) (kinds.PairEnd g.frame.next.pair 1)).frame.opens (two_ends (kinds.PairEnd g.frame.next.pair 0) (kinds.PairEnd g.frame.next.pair 1) tt tt) s), same_follow, old_files);
+        break = λ brk. (break brk g s, same_follow, old_files);
+        grown = λ start pages brk. (break brk (mapped g p p.maps (new_mapping g start pages 3 false)) (mapped_stands g p p.maps (new_mapping g start pages 3 false) refl mine s), one_more_follows pages, old_files);
+        shrunk = λ start pages brk. (settled_stands (with_break (with_maps g p (cut p.maps start pages)) p brk) (break brk (with_maps g p (cut p.maps start pages)) (maps start pages)), settled_follow [] (with_break (with_maps g p (cut p.maps start pages)) p brk) same_follow, old_files);
+        unmapped = λ start pages. (settled_stands (with_maps g p (cut p.maps start pages)) (maps start pages), settled_follow [] (with_maps g p (cut p.maps start pages)) same_follow, old_files);
+        one_more = λ start pages prot shared. (mapped_stands g p p.maps (new_mapping g start pages prot shared) refl mine s, one_more_follows pages, old_files);
+        instead = λ start pages prot shared. (settled_stands (mapped g p (cut p.maps start pages) (new_mapping g start pages prot shared)) (mapped_stands g p (cut p.maps start pages) (new_mapping g start pages prot shared) refl (cut_of next g.frame.files p.maps start pages mine) s), settled_follow [] (mapped g p (cut p.maps start pages) (new_mapping g start pages prot shared)) (one_more_follows pages), old_files);
+        reaped = λ wanted q e. (procs_stand g (without_proc g q.pid).frame.procs (All-filter _ (λ (x : Proc). OfMemory next g.frame.files x.maps) g.frame.procs s.unmapped) s, same_follow, old_files);
+      }
+
+  -- openat empties a file's pages that have a byte
+  abbrev emptied_pages : Group → List (ℕ × ℕ)
+  emptied_pages h = flat_map (pages_emptied h.frame.files) g.frame.files
+
+  abbrev Openly : Group → Type 0
+  Openly h = StepLeaves g so_far (emptied_pages h) h
+
+  its_file : (f : FileRec) → Any (λ x. x ≡ f) g.frame.files → is_of_file g.frame.files f.object ≡ true
+  unfolding is_of_file
+  its_file f there = true_any (λ x. x.object == f.object) g.frame.files (any_weaker (λ x. x ≡ f) (λ x. (x.object == f.object) ≡ true) g.frame.files (λ x same. eq-eqb x.object f.object (ap (λ (y : FileRec). y.object) same)) there)
+
+  open_stands : (h : Group) (kind : OpenKind) (flags : ℕ) (list : List (ℕ × ℕ)) → IsAtFile h.frame.files kind → StandsIn h → StandsIn (with_fds (with_open h kind flags) p list)
+  open_stands h kind flags list is t =
+      with_caller (with_open h kind flags) (λ q. record q { fds = list }) (λ q. refl)
+      (opens_stand h (with_open h kind flags).frame.opens (All-push (λ (o : Open). IsAtFile h.frame.files o.kind) h.frame.opens (record { number = h.frame.next.descr; kind = kind; offset = 0; flags = flags }) t.described is) t)
+
+  -- a page that isn't touched lies past the file's length
+  past_length : (files : List FileRec) (object k : ℕ) → length_of (with_length g.frame.files object 0) object ≡ 0 → is_among (flat_map (pages_emptied (with_length g.frame.files object 0)) files) (object, k) ≡ false → length_of files object ≤ 4096 * k
+  past_length [] object k none e = omega arith
+  past_length (f ∷ fs) object k none e = by_test (f.object == object) refl (past_length fs object k none (apart (pages_emptied after f) (flat_map (pages_emptied after) fs) (object, k) e).1)
+    where
+      after : List FileRec
+      after = with_length g.frame.files object 0
+
+      untouched : is_among (pages_emptied after f) (object, k) ≡ false
+      untouched = (apart (pages_emptied after f) (flat_map (pages_emptied after) fs) (object, k) e).0
+
+      within : (len : ℕ) (b : Bool) → nat_lt 0 len ≡ b → is_among (if b then pages_between object 0 len else []) (object, k) ≡ false → len ≤ 4096 * k
+      within len false none e = let low = ltb-false 0 len none in omega (arith, low)
+      within len true some e = by_side (not_between object k (0 / 4096) ((len - 1) / 4096 + 1 - 0 / 4096) (ap (λ (b : Bool). is_among (if b then map (λ page. (object, page)) (range_with_len (0 / 4096) ((len - 1) / 4096 + 1 - 0 / 4096)) else []) (object, k)) (sym some) ∙ e))
+        where
+          by_side : (k < 0 / 4096) ⊎ (0 / 4096 + ((len - 1) / 4096 + 1 - 0 / 4096) ≤ k) → len ≤ 4096 * k
+          by_side (inl below) = absurd (omega (arith, below))
+          by_side (inr above) = let lt = ltb-true 0 len some in omega (arith, above, lt)
+
+      by_test : (b : Bool) → (f.object == object) ≡ b → length_of fs object ≤ 4096 * k → length_of (f ∷ fs) object ≤ 4096 * k
+      by_test true hit rest =
+          let here : f.object ≡ object = eqb-true f.object object hit in
+          let P : ℕ → Type 0 = λ n. is_among (if nat_lt (length_of after n) f.length then pages_between n 0 f.length else []) (object, k) ≡ false in
+          let Q : ℕ → Type 0 = λ n. is_among (if nat_lt n f.length then pages_between object 0 f.length else []) (object, k) ≡ false in
+          let size : length_of (f ∷ fs) object ≡ f.length = rw (length_of, hit) refl in
+          let past = within f.length (nat_lt 0 f.length) refl (subst Q none (subst P here untouched)) in
+          omega (arith, size, past)
+      by_test false miss rest = let same : length_of (f ∷ fs) object ≡ length_of fs object = rw (length_of, miss) refl in omega (arith, same, rest)
+
+  zeros_are_content : IsContent 0 (zeros 1048576)
+  zeros_are_content = (zeros_length 1048576, zeros_are_zero 1048576)
+
+  opened_follow : Opened g p Openly
+  opened_follow = record {
+    old = λ f flags list there. (open_stands g (kinds.File f.object) flags list (its_file f there) s, all_follow g so_far (emptied_pages (with_fds (with_open g (kinds.File f.object) flags) p list)) next g.memory same_follow, old_files);
+    cleared = λ f flags list there.
+        let file = its_file f there in
+        let content = s.contents f.object file in (
+          open_stands (emptied g f.object) (kinds.File f.object) flags list (same_files g f.object 0 (zeros 1048576) file zeros_are_content s f.object ∙ file) (content_stands g f.object 0 (zeros 1048576) file zeros_are_content s),
+          content_follows f.object (zeros 1048576) (flat_map (pages_emptied (with_length g.frame.files f.object 0)) g.frame.files) file
+              (λ k e. zero_page_same (bytes_in g.memory f.object) (zeros 1048576) (length_of g.frame.files f.object) k (content.0 ∙ sym (zeros_length 1048576)) (past_length g.frame.files f.object k (its_length g f.object 0 (zeros 1048576) file zeros_are_content s) e) content.1 (zeros_are_zero 1048576)),
+          λ n lt is. sym (same_files g f.object 0 (zeros 1048576) file zeros_are_content s n) ∙ is,
+        );
+    made = λ name flags list. (open_stands (with_new_file g name) (kinds.File next) flags list (its_new_file g name s) (new_file_stands g name s), all_follow g so_far (emptied_pages (with_fds (with_open (with_new_file g name) (kinds.File next) flags) p list)) (next + 1) (g.memory ++ (next, zeros (4096 * 256)) ∷ []) (one_more_follows 256), new_file_old g name s);
+  }
+
+  -- write to a file touches the pages that its bytes come to lie in
+  put_follows : (o : Open) → open_at p.fds g.frame.opens (fd_of (regs_of p)) ≡ Some o → (object : ℕ) → o.kind ≡ kinds.File object → (bytes : List ℕ) → write_place g o object + length bytes ≤ 1048576
+      → StepLeaves g so_far (pages_written_to g (length bytes) (open_at p.fds g.frame.opens (fd_of (regs_of p)))) (with_put g o object (write_place g o object) bytes)
+  put_follows o at object is bytes within =
+      let place = write_place g o object in
+      let old = bytes_in g.memory object in
+      let file : is_of_file g.frame.files object ≡ true = subst (IsAtFile g.frame.files) is (open_has (λ x. IsAtFile g.frame.files x.kind) p.fds g.frame.opens (fd_of (regs_of p)) o s.described at) in
+      let content = s.contents object file in
+      let size = content.0 in
+      let fits : place + length bytes ≤ length old = omega (arith, within, size) in
+      let len = max (length_of g.frame.files object) (place + length bytes) in
+      let new : IsContent len (put old place bytes) = (length-put old place bytes fits ∙ size, zeros_behind old (length_of g.frame.files object) place bytes fits content.1) in
+      let t = content_stands g object len (put old place bytes) file new s in (
+        opens_stand (with_content g object place bytes) (with_offset g.frame.opens o.number (place + length bytes)) (on_first_all (λ (x : Open). x.number == o.number) (λ x. record x { offset = place + length bytes }) (λ x. IsAtFile (with_length g.frame.files object len) x.kind) g.frame.opens (λ x found old. old) t.described) t,
+        content_follows object (put old place bytes) (pages_written_to g (length bytes) (open_at p.fds g.frame.opens (fd_of (regs_of p)))) file
+            (λ k e.
+            let Of : Option Open → Type 0 = λ x. is_among (pages_written_to g (length bytes) x) (object, k) ≡ false in
+            let Kind : OpenKind → Type 0 = λ x. is_among (pages_of_file_write g o (length bytes) x) (object, k) ≡ false in
+            put_kept old place bytes fits object k (subst Kind is (subst Of at e))),
+        λ n lt is. sym (same_files g object len (put old place bytes) file new s n) ∙ is,
+      )
+
+  -- a fork hands on what its parent touched
+  untouched_copy : (c : Copy) (n k : ℕ) (pages : List (ℕ × ℕ)) → (c.fresh == n) ≡ true → is_among (flat_map (copied_page c) pages) (n, k) ≡ false → is_among pages (c.old.number, k) ≡ false
+  untouched_copy c n k [] hit e = refl
+  untouched_copy c n k (x ∷ xs) hit e =
+      let parts = apart (copied_page c x) (flat_map (copied_page c) xs) (n, k) e in
+      ap (λ b. b || is_among xs (c.old.number, k)) (by_test (c.old.number == x.0) refl (x.1 == k) refl parts.0) ∙ untouched_copy c n k xs hit parts.1
+    where
+      by_test : (b : Bool) → (c.old.number == x.0) ≡ b → (d : Bool) → (x.1 == k) ≡ d → is_among (if b then (c.fresh, x.1) ∷ [] else []) (n, k) ≡ false → ((x.0 == c.old.number) && (x.1 == k)) ≡ false
+      by_test true here true there e = let over : ((c.fresh == n) && (x.1 == k)) || false ≡ true = rw (hit, there) refl in absurd (cc)
+      by_test true here false there e = both_false (x.0 == c.old.number) (x.1 == k) (inr there)
+      by_test false here d there e = both_false (x.0 == c.old.number) (x.1 == k) (inl (other (x.0 == c.old.number) refl))
+        where
+          other : (b : Bool) → (x.0 == c.old.number) ≡ b → b ≡ false
+          other false e = refl
+          other true e = let same : (c.old.number == x.0) ≡ true = eq-eqb c.old.number x.0 (sym (eqb-true x.0 c.old.number e)) in absurd (cc)
+
+  found_copy : (n k : ℕ) (copies : List Copy) → is_among (flat_map (λ c. flat_map (copied_page c) so_far) copies) (n, k) ≡ false
+      → (bytes_in (copied g.memory copies) n ≡ []) ⊎ ((j : ℕ) × (bytes_in (copied g.memory copies) n ≡ bytes_in g.memory j) × (is_among so_far (j, k) ≡ false))
+  found_copy n k [] e = inl refl
+  found_copy n k (c ∷ cs) e =
+      let parts = apart (flat_map (copied_page c) so_far) (flat_map (λ c. flat_map (copied_page c) so_far) cs) (n, k) e in
+      by_test (c.fresh == n) refl parts.0 (found_copy n k cs parts.1)
+    where
+      by_test : (b : Bool) → (c.fresh == n) ≡ b → is_among (flat_map (copied_page c) so_far) (n, k) ≡ false → (bytes_in (copied g.memory cs) n ≡ []) ⊎ ((j : ℕ) × (bytes_in (copied g.memory cs) n ≡ bytes_in g.memory j) × (is_among so_far (j, k) ≡ false))
+          → (bytes_in (copied g.memory (c ∷ cs)) n ≡ []) ⊎ ((j : ℕ) × (bytes_in (copied g.memory (c ∷ cs)) n ≡ bytes_in g.memory j) × (is_among so_far (j, k) ≡ false))
+      by_test true hit e rest = inr (c.old.number, rw (bytes_in, hit) refl, untouched_copy c n k so_far hit e)
+      by_test false miss e (inl none) = inl (rw (bytes_in, miss) none)
+      by_test false miss e (inr (j, is, untouched)) = inr (j, rw (bytes_in, miss) is, untouched)
+
+  forked_follows : StepLeaves g so_far (handed_on g p so_far) (forked g p (copies_from next (to_copy g.frame p)))
+  unfolding forked
+  forked_follows =
+      let copies = copies_from next (to_copy g.frame p) in
+      let from = copies_from_next next (to_copy g.frame p) in
+      let from' = copied_from g copies from s in (
+        forked_stands g copies from s p mine,
+        record {
+          rises = omega arith;
+          old = λ page e lt. inl (ap (part page.1) (old_bytes g (length copies) (copied g.memory copies) from' s page.0 lt));
+          new = λ page e le. by_copy page copies (only_more g.memory (copied g.memory copies) page.0 (none_there next g.memory page.0 s.numbers le)) (found_copy page.0 page.1 copies e);
+        },
+        old_files,
+      )
+    where
+      by_copy : (page : ℕ × ℕ) (copies : List Copy) → bytes_in (g.memory ++ copied g.memory copies) page.0 ≡ bytes_in (copied g.memory copies) page.0
+          → (bytes_in (copied g.memory copies) page.0 ≡ []) ⊎ ((j : ℕ) × (bytes_in (copied g.memory copies) page.0 ≡ bytes_in g.memory j) × (is_among so_far (j, page.1) ≡ false)) → IsNew g so_far (g.memory ++ copied g.memory copies) page
+      by_copy page copies same (inl none) = inl (zero_page (g.memory ++ copied g.memory copies) page (same ∙ none))
+      by_copy page copies same (inr (j, is, untouched)) = inr (j, ap (part page.1) (same ∙ is), untouched)
+
+  -- What a reply leaves, by the call's number.
+  unfoldable ReplyLeaves : ℕ → Reply Group → Type 0
+  ReplyLeaves number waits = Unit {0}
+  ReplyLeaves number (refuses errno) = Unit {0}
+  ReplyLeaves number (answers value h writes) = StepLeaves g so_far (touched_beside g p so_far number value h) h
+  ReplyLeaves number (ends status) = Unit {0}
+
+  plain_reply : (number : ℕ) (r : Reply Group) → Leaves Plainly r → ReplyLeaves number r
+  unfolding ReplyLeaves
+  plain_reply number waits l = tt
+  plain_reply number (refuses errno) l = tt
+  plain_reply number (answers value h writes) l = (l.0, all_follow g so_far (touched_beside g p so_far number value h) h.frame.next.object h.memory l.1, l.2)
+  plain_reply number (ends status) l = tt
+
+  openat_reply : (r : Reply Group) → Leaves Openly r → ReplyLeaves 56 r
+  unfolding ReplyLeaves touched_beside
+  openat_reply waits l = tt
+  openat_reply (refuses errno) l = tt
+  openat_reply (answers value h writes) l = l
+  openat_reply (ends status) l = tt
+
+  clone_reply : (r : Reply Group) → Leaves (StepLeaves g so_far (handed_on g p so_far)) r → ReplyLeaves 220 r
+  unfolding ReplyLeaves touched_beside
+  clone_reply waits l = tt
+  clone_reply (refuses errno) l = tt
+  clone_reply (answers value h writes) l = l
+  clone_reply (ends status) l = tt
+
+  write_leaves : ReplyLeaves 64 (write g p (sight g p) (regs_of p))
+  unfolding ReplyLeaves touched_beside
+  write_leaves =
+      let as_was : (touched : List (ℕ × ℕ)) → Follows g so_far touched next g.memory = λ touched. all_follow g so_far touched next g.memory same_follow in
+      write_reply (ReplyLeaves 64) g (sight g p) tt (λ errno. tt) (s, as_was _, old_files) (λ bytes few. (s, as_was _, old_files)) (λ value pipes. (s, as_was _, old_files)) (λ value pairs. (s, as_was _, old_files)) p (regs_of p) put_follows
+
+  call_leaves : (durable : Bool) (number : ℕ) → ReplyLeaves number (call_in durable g p number)
+  call_leaves durable =
+      call_holds durable g p Plainly plain_follow ReplyLeaves plain_reply (openat_reply (openat g p (sight g p) (regs_of p)) (openat_leaves g p Openly opened_follow (sight g p) (regs_of p))) write_leaves
+      (clone_reply (clone g p (regs_of p)) (clone_leaves g p (StepLeaves g so_far (handed_on g p so_far)) (λ can. forked_follows) (regs_of p)))
+
+  -- stores touch the pages that they lie in
+  written_follow : (beside : List (ℕ × ℕ)) (n : ℕ) (memory : List (ℕ × List ℕ)) (writes : List Write) → Follows g so_far beside n memory → Follows g so_far (pages_of_writes p.maps writes ++ beside) n (with_writes memory p.maps writes)
+  written_follow beside n memory writes f = record {
+    rises = f.rises;
+    old = λ page e lt. let parts = apart (pages_of_writes p.maps writes) beside page e in ⊎_elim (λ same. inl (writes_kept memory p.maps writes page parts.0 ∙ same)) (λ gone. inr (writes_kept memory p.maps writes page parts.0 ∙ gone)) (f.old page parts.1 lt);
+    new = λ page e le. let parts = apart (pages_of_writes p.maps writes) beside page e in by_new page (writes_kept memory p.maps writes page parts.0) (f.new page parts.1 le);
+  }
+    where
+      by_new : (page : ℕ × ℕ) → page_bytes (with_writes memory p.maps writes) page ≡ page_bytes memory page → IsNew g so_far memory page → IsNew g so_far (with_writes memory p.maps writes) page
+      by_new page same (inl none) = inl (ap (λ (bs : List ℕ). list_all (λ b. b == 0) bs) same ∙ none)
+      by_new page same (inr (k, is, untouched)) = inr (k, same ∙ is, untouched)
+
+  continued_stands : (h : Group) (r : Regs) → StandsIn h → StandsIn (on_caller h p (with_regs r))
+  continued_stands h r t = with_caller h (with_regs r) (λ q. refl) t
+
+  over : (status : ℕ) → StepLeaves g so_far [] (ended g p status)
+  unfolding ended settled
+  over status = (ended_stands g p status s, settled_follow [] (with_procs g (filter_map (after_end p status) g.frame.procs)) same_follow, old_files)
+
+  -- A step, by its reply and by its effect.
+  by_reply : (number : ℕ) (r : Reply Group) → ReplyLeaves number r → StepLeaves g so_far (touched_by_reply g p so_far number r) (after_reply g p r)
+  unfolding ReplyLeaves
+  by_reply number waits l = (s, same_follow, old_files)
+  by_reply number (refuses errno) l = (continued_stands g (answered (regs_of p) (2 ^ 64 - errno)) s, same_follow, old_files)
+  by_reply number (answers value h writes) l = (
+    continued_stands (written h p writes) (answered (regs_of p) value) (stored_stands h p.maps writes (of_before next h.frame.next.object g.frame.files h.frame.files p.maps l.1.rises l.2 mine) l.0),
+    written_follow (touched_beside g p so_far number value h) h.frame.next.object h.memory writes l.1,
+    l.2,
+  )
+  by_reply number (ends status) l = over status
+
+  pub call_step : (durable : Bool) (number : ℕ) → StepLeaves g so_far (touched_by_reply g p so_far number (call_in durable g p number)) (after_reply g p (call_in durable g p number))
+  call_step durable number = by_reply number (call_in durable g p number) (call_leaves durable number)
+
+  reply_leaves : (durable : Bool) (number : ℕ) → ReplyLeaves number (reply_in durable g p number)
+  unfolding reply_in ReplyLeaves
+  reply_leaves durable number = by_test (list_any (λ n. n == number) served)
+    where
+      by_test : (b : Bool) → ReplyLeaves number (if b then call_in durable g p number else refuses ENOSYS)
+      by_test true = call_leaves durable number
+      by_test false = tt
+
+  pub by_effect : (durable : Bool) (e : Effect) → StepLeaves g so_far (touched_by_effect durable g p so_far e) (after_effect durable g p e)
+  by_effect durable (steps r stored) = (
+    continued_stands (written g p (list_of stored)) r (stored_stands g p.maps (list_of stored) mine s),
+    subst (λ touched. Follows g so_far touched next (with_writes g.memory p.maps (list_of stored))) (append-nil (pages_of_writes p.maps (list_of stored))) (written_follow [] next g.memory (list_of stored) same_follow),
+    old_files,
+  )
+  by_effect durable calls = by_reply (call_number (regs_of p)) (reply_in durable g p (call_number (regs_of p))) (reply_leaves durable (call_number (regs_of p)))
+  by_effect durable (traps status) = over status

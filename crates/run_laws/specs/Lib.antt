@@ -6,3 +6,4 @@ pub mod Rests
 pub mod EpochGroups
 pub mod OutputBetween
 pub mod Smallest
+pub mod Untouched

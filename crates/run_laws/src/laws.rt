@@ -1,14 +1,14 @@
 //! What holds of the definitions of turns, traces and ends, whatever the group.
 
-ghost use Rattle.std.specs.Prelude.{◌≡◌, ◌↔◌, ◌<◌, ◌≤◌, ◌-◌, ◌+◌, ◌⊎◌, ℕ, List, [], ◌∷◌, ◌++◌, IsTrue, true, false, Some, drop, length, map, slice_index};
+ghost use Rattle.std.specs.Prelude.{◌≡◌, ◌↔◌, ◌<◌, ◌≤◌, ◌-◌, ◌+◌, ◌⊎◌, ℕ, Bool, List, [], ◌∷◌, ◌++◌, IsTrue, true, false, Some, drop, length, map, slice_index};
 ghost use Rattle.std.specs.List.{list_any};
 ghost use Rattle.group_defs.specs.declared.frame.Proc.{Proc};
-ghost use Rattle.group_defs.specs.Group.{Group};
+ghost use Rattle.group_defs.specs.Group.{Group, runner};
 ghost use Rattle.group_defs.specs.Numbers.{HasUnwornNumbers};
 ghost use Rattle.group_defs.specs.Output.{last_position, room, with_output};
-ghost use Rattle.group_defs.specs.Pages.{is_among, nonzero_pages, page_bytes};
+ghost use Rattle.group_defs.specs.Pages.{is_among, nonzero_pages, touched_by_reply};
 ghost use Rattle.group_defs.specs.Standing.{State, barrier, state_at};
-ghost use Rattle.group_defs.specs.Step.{do_step, group_step, group_waits, is_waiting};
+ghost use Rattle.group_defs.specs.Step.{after_reply, call_in, do_step, group_step, group_waits, is_waiting};
 ghost use Rattle.group_defs.specs.Valid.{GroupIsValid};
 ghost use Rattle.group_laws.specs.Fresh.{IsFresh};
 ghost use Rattle.run_defs.specs.declared.run.Limits.{Limits};
@@ -29,6 +29,7 @@ ghost use Rattle.run_laws.specs.Smallest.{default_limits, exits_at_once, exit_tr
 ghost use Rattle.run_defs.specs.Solo.{IsSoloPrefix, IsSoloSoFar, IsSoloTrace};
 ghost use Rattle.run_defs.specs.Touched.{touched_with_turn};
 ghost use Rattle.run_defs.specs.Turns.{IsTurn, steps_of, turned};
+ghost use Rattle.run_laws.specs.Untouched.{LeavesUntouched};
 
 /// As long as no call that is served reads the standing, steps and turns read the group alone.
 pub fn turns_read_the_group()
@@ -245,13 +246,18 @@ pub fn one_trace_on_one_thread()
         → RestsFollow start origin_epoch limits }
 {}
 
-/// A turn in a valid group changes no page that it doesn't touch: the page's bytes stay, or its object has gone. What was
-/// touched stays touched until the barrier, which begins an interval anew.
+/// A turn in a valid group, and each call that is defined, changes no page that it doesn't touch, of an object that was there
+/// before: its bytes stay, or its object has gone. What was touched stays touched until the barrier, which begins an interval
+/// anew.
 pub fn untouched_pages_stay()
-    ensures stay { (quantum : ℕ) (s : State) (pid n : ℕ) (so_far : List (ℕ × ℕ)) (page : ℕ × ℕ)
-        → GroupIsValid s.group → is_among (touched_with_turn quantum s pid n so_far) page ≡ false
-        → (page_bytes (turned quantum s pid n).group.memory page ≡ page_bytes s.group.memory page)
-        ⊎ (page_bytes (turned quantum s pid n).group.memory page ≡ []) }
+    ensures stay { (quantum : ℕ) (s : State) (pid n : ℕ) (so_far : List (ℕ × ℕ))
+        → GroupIsValid s.group
+        → LeavesUntouched s.group (touched_with_turn quantum s pid n so_far)
+        (turned quantum s pid n).group }
+    ensures calls { (durable : Bool) (g : Group) (pid : ℕ) (p : Proc) (number : ℕ)
+        (so_far : List (ℕ × ℕ)) → GroupIsValid g → runner g pid ≡ Some p
+        → let reply = call_in durable g p number in
+        LeavesUntouched g (touched_by_reply g p so_far number reply) (after_reply g p reply) }
     ensures grow { (quantum : ℕ) (s : State) (pid n : ℕ) (so_far : List (ℕ × ℕ)) (page : ℕ × ℕ)
         → is_among so_far page ≡ true
         → is_among (touched_with_turn quantum s pid n so_far) page ≡ true }

@@ -1,4 +1,4 @@
-use Rattle.run_laws.proofs.PageLaws.{first_has_all}
+use Rattle.run_laws.proofs.TurnPages.{first_has_all}
 use Rattle.run_laws.proofs.laws.first_checkpoint_has_all.Goals as goal
 
 pub returns : goal.returns
