@@ -127,34 +127,48 @@ family_ends rest parents childs = refl
 pub two_legal : (rest others : List ℕ) → Legal (two_processes rest others) 1 two_workers two_workers_trace
 unfolding EachMark ready is_local group_waits AllLocal runner cells_of bytes_with number_of act_of imm_by imm_i imm_u op_imm_by instr_by on_first with_writes group_step do_step is_waiting is_durable stepped steps_of reply_in served call_in ended settled system_by is_of_file maps_object is_held is_kept is_end_held
 two_legal rest others = (
+  record { worker_is = omega arith; idle = refl; next = refl; interval = omega arith; turns = omega arith },
+  (
     record { worker_is = omega arith; idle = refl; next = refl; interval = omega arith; turns = omega arith },
     (
-    record { worker_is = omega arith; idle = refl; next = refl; interval = omega arith; turns = omega arith },
-    (
-    record { leased = refl; turn = record { within = omega arith; all_local = tt; no_more = λ _. refl }; moves = refl },
-    (
-    record { leased = refl; turn = record { within = omega arith; all_local = tt; no_more = λ _. refl }; moves = refl },
-    (
-    record { rises = refl; rests = record { no_lease = refl; acked = refl }; cause = record { turn = omega arith; cause = inl refl } },
-    (
-    record { made = omega arith; first = omega arith },
-    (
-    record { fetched = omega arith; first = omega arith },
-    (
-    record { worker_is = omega arith; idle = refl; next = refl; interval = omega arith; turns = omega arith },
-    (
-    record { worker_is = omega arith; idle = refl; next = refl; interval = omega arith; turns = omega arith },
-    (
-    record { leased = refl; turn = record { within = omega arith; all_local = (tt, refl); no_more = λ _. refl }; moves = refl },
-    (
-    record { leased = refl; turn = record { within = omega arith; all_local = (tt, refl); no_more = λ _. refl }; moves = refl },
-    (
-    record { rises = refl; rests = record { no_lease = refl; acked = refl }; cause = record { turn = omega arith; cause = inl refl } },
-    (
-    record { made = omega arith; first = omega arith },
-    (
-    record { fetched = omega arith; first = omega arith },
-    tt))))))))))))))
+      record { leased = refl; turn = record { within = omega arith; all_local = tt; no_more = λ _. refl }; moves = refl },
+      (
+        record { leased = refl; turn = record { within = omega arith; all_local = tt; no_more = λ _. refl }; moves = refl },
+        (
+          record { rises = refl; rests = record { no_lease = refl; acked = refl }; cause = record { turn = omega arith; cause = inl refl } },
+          (
+            record { made = omega arith; first = omega arith },
+            (
+              record { fetched = omega arith; first = omega arith },
+              (
+                record { worker_is = omega arith; idle = refl; next = refl; interval = omega arith; turns = omega arith },
+                (
+                  record { worker_is = omega arith; idle = refl; next = refl; interval = omega arith; turns = omega arith },
+                  (
+                    record { leased = refl; turn = record { within = omega arith; all_local = (tt, refl); no_more = λ _. refl }; moves = refl },
+                    (
+                      record { leased = refl; turn = record { within = omega arith; all_local = (tt, refl); no_more = λ _. refl }; moves = refl },
+                      (
+                        record { rises = refl; rests = record { no_lease = refl; acked = refl }; cause = record { turn = omega arith; cause = inl refl } },
+                        (
+                          record { made = omega arith; first = omega arith },
+                          (
+                            record { fetched = omega arith; first = omega arith },
+                            tt,
+                          ),
+                        ),
+                      ),
+                    ),
+                  ),
+                ),
+              ),
+            ),
+          ),
+        ),
+      ),
+    ),
+  ),
+)
 
 pub two_done : (rest others : List ℕ) → let r = progress_after 1000 (progress_at 1 (two_processes rest others)) two_workers_trace in IsDone r.state.group
 unfolding EachMark ready is_local group_waits AllLocal runner cells_of bytes_with number_of act_of imm_by imm_i imm_u op_imm_by instr_by on_first with_writes group_step do_step is_waiting is_durable stepped steps_of reply_in served call_in ended settled system_by is_of_file maps_object is_held is_kept is_end_held
