@@ -1,5 +1,6 @@
 mod bounds;
 mod first_format;
+mod numbers;
 mod random;
 mod records;
 mod runs;

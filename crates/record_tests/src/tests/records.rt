@@ -1,5 +1,4 @@
 use crate::tests::samples::{BLOCKS, first_pages, frame_of, is_nothing, spelled, thirteen};
-use ckpt_chain::{SlotBody, read_slot};
 use ckpt_records::{num_at, read_meta};
 use std::alloc::Global;
 use std::test::Fail;
@@ -182,27 +181,6 @@ fn what_is_written_is_read_again(rt: HostRuntime) -> Result<(), Fail> {
             assert!(rt; is_read_again(alloc, pages, listed, pc, &output)?);
         }
     }
-    Ok(())
-}
-
-/// Slot A open at epoch 1, whose record has 728 bytes from block 15 on: the gate byte, and bytes 8 to 39.
-const SLOT: &[u8] =
-    b"\x01\0\0\0\0\0\0\0AURSLOT2\x01\0\0\0\0\0\0\0\x0f\0\0\0\0\0\0\0\xd8\x02\0\0\0\0\0\0";
-
-#[test]
-fn a_slot_opens_the_record_of_thirteen_pages(rt: HostRuntime) -> Result<(), Fail> {
-    let alloc = rt.alloc();
-    let bytes = thirteen(alloc, 2)?;
-    let mut block = SLOT.to_vec(alloc)?;
-    block.resize(4096, 0)?;
-    let body = SlotBody {
-        format: 2,
-        epoch: 1,
-        first: 15,
-        length: bytes.len() as u64,
-    };
-    assert_eq!(rt; block.len(), 4096);
-    assert_eq!(rt; read_slot(&block), Some(body));
     Ok(())
 }
 
