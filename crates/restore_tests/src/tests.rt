@@ -1,1 +1,2 @@
+mod first_format;
 mod restoring;

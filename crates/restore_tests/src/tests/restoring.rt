@@ -137,7 +137,7 @@ fn places(pages: [u64; 2]) -> [PagePlace; 2] {
     ]
 }
 
-fn spelled(alloc: Global, frame: &Frame, pages: &[PagePlace]) -> Result<Vec<u8>, Fail> {
+pub fn spelled(alloc: Global, frame: &Frame, pages: &[PagePlace]) -> Result<Vec<u8>, Fail> {
     if !is_in_form(frame) {
         return Err(Fail::new("the frame has no spelling"));
     }
@@ -182,7 +182,7 @@ fn plain(alloc: Global) -> Result<Vec<u8>, Fail> {
 }
 
 /// Puts bytes at a place of the disk.
-fn put(image: &mut Vec<u8>, place: u64, bytes: &[u8]) -> Result<(), Fail> {
+pub fn put(image: &mut Vec<u8>, place: u64, bytes: &[u8]) -> Result<(), Fail> {
     if place > image.len() as u64 || image.len() as u64 - place < bytes.len() as u64 {
         return Err(Fail::new("the disk is shorter"));
     }
@@ -250,7 +250,7 @@ fn image_of(alloc: Global, checkpoints: &[Checkpoint]) -> Result<Vec<u8>, Fail> 
 }
 
 /// What is restored of a disk whose call of one number, from 1, fails, and how many calls that took.
-fn restored(
+pub fn restored(
     alloc: Global,
     image: &[u8],
     failing: u64,
