@@ -2,9 +2,11 @@
 use crate::tests::refusals::patched;
 use crate::tests::runs::{STEP, full_of_ones};
 use crate::tests::samples::{
-    FLAT_P, Left, Wanted, disk_of, ends_as, files, restored, run, sink, spent, zeros,
+    FLAT_P, Left, Wanted, disk_of, ends_as, files, restored, run, sink, spent, stopped_in_the_gate,
+    zeros,
 };
 use command_words::End;
+use dev_traits::mem::Fill;
 use std::alloc::Global;
 use std::test::Fail;
 
@@ -53,18 +55,51 @@ const ONE_STEP: &[&str] = &["restore", "d", "o", "--turns", "1", "--quantum", "1
 /// Slot B of the next checkpoint: the text, epoch 2, meta block 29, and 728 bytes.
 const NEXT: &[u8] = b"AURSLOT2\x02\0\0\0\0\0\0\0\x1d\0\0\0\0\0\0\0\xd8\x02\0\0\0\0\0\0";
 
+/// What is said of a restore that commits epoch 2.
+const SECOND: &str = "spent epoch 2 turns 1 output 0\n";
+
 #[test]
 fn format_2_is_written_beside_format_1(rt: HostRuntime) -> Result<(), Fail> {
     let alloc = rt.alloc();
     let earlier = thirteen_of_format_1(alloc, 32)?;
     let left = restored(alloc, ONE_STEP, earlier.clone()?, b"")?;
-    let wanted = spent(2, 1, 0, "spent epoch 2 turns 1 output 0\n");
-    assert!(rt; ends_as(&left, wanted));
+    assert!(rt; ends_as(&left, spent(2, 1, 0, SECOND)));
     let disk = left.disk.as_slice();
     assert_eq!(rt; disk.get(..40), earlier.get(..40));
     assert_eq!(rt; disk.get(4096), Some(&1));
     assert_eq!(rt; disk.get(4104..4136), Some(NEXT));
-    assert_eq!(rt; disk.get(118_792..118_800), Some(b"AURMETA2".as_slice()));
+    Ok(())
+}
+
+/// The run of the next record: object 0 from page 0 on, 13 pages, from block 16 on.
+const NEXT_RUN: [u64; 5] = [1, 0, 0, 13, 16];
+
+#[test]
+fn what_format_1_says_of_a_group_is_said_in_format_2(rt: HostRuntime) -> Result<(), Fail> {
+    let alloc = rt.alloc();
+    let earlier = thirteen_of_format_1(alloc, 32)?;
+    let left = restored(alloc, ONE_STEP, earlier.clone()?, b"")?;
+    let mut wanted = b"AURMETA2".as_slice().to_vec(alloc)?;
+    wanted.extend_from_slice(earlier.get(RECORD + 8..PAGES).unwrap_or(&[]))?;
+    for number in NEXT_RUN {
+        wanted.extend_from_slice(&number.to_le_bytes())?;
+    }
+    assert_eq!(rt; wanted.len(), 728);
+    assert!(rt; left.disk.get(118_792..119_520) == Some(wanted.as_slice()));
+    assert!(rt; left.disk.get(65_536..118_784) == earlier.get(8_192..61_440));
+    Ok(())
+}
+
+#[test]
+fn a_stop_in_the_gate_write_leaves_format_1(rt: HostRuntime) -> Result<(), Fail> {
+    let alloc = rt.alloc();
+    let earlier = thirteen_of_format_1(alloc, 32)?;
+    let stopped = stopped_in_the_gate(alloc, ONE_STEP, earlier.clone()?, Fill::Byte(0))?;
+    assert_eq!(rt; stopped.get(4104..4136), Some(NEXT));
+    assert_eq!(rt; stopped.get(..40), earlier.get(..40));
+    let left = restored(alloc, ONE_STEP, stopped, b"")?;
+    assert_eq!(rt; left.origin_epoch, 1);
+    assert!(rt; ends_as(&left, spent(2, 1, 0, SECOND)));
     Ok(())
 }
 

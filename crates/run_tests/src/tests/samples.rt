@@ -1,8 +1,8 @@
 //! Small programs, memory devices to run them on, and what a command leaves.
 use aurora_top::{Ending, aurora_solo};
 use command_words::End;
-use dev_traits::Word;
-use dev_traits::mem::{MemDisk, MemFiles, MemSink};
+use dev_traits::mem::{Fill, MemDisk, MemFiles, MemSink};
+use dev_traits::{Disk, Word};
 use run_defs::{AckMark, Mark};
 use std::alloc::Global;
 use std::test::Fail;
@@ -123,6 +123,31 @@ pub fn run(
     let words = words(alloc, texts)?;
     let ending = aurora_solo(alloc, &words, files, disk, out, sink(alloc, b"")?);
     left_of(alloc, &ending)
+}
+
+/// What a stop in the last but one call of an ending's disk leaves, with this in what it wrote.
+fn image_before_the_end(alloc: Global, ending: &MemEnding, fill: Fill) -> Result<Vec<u8>, Fail> {
+    let calls = ending.disk.moment();
+    if calls < 2 {
+        return Err(Fail::new("the disk has no call before the last one"));
+    }
+    Ok(ending.disk.image(alloc, calls - 1, fill)?)
+}
+
+/// The bytes of a disk whose restore is stopped in the write of its last gate: a sync is the only call behind it. The gate
+/// has this.
+pub fn stopped_in_the_gate(
+    alloc: Global,
+    texts: &[&str],
+    image: Vec<u8>,
+    fill: Fill,
+) -> Result<Vec<u8>, Fail> {
+    let words = words(alloc, texts)?;
+    let none = MemFiles::of(alloc, Vec::new(alloc));
+    let disk = disk_of(alloc, image)?;
+    let (out, say) = (sink(alloc, b"")?, sink(alloc, b"")?);
+    let ending = aurora_solo(alloc, &words, none, disk, out, say);
+    image_before_the_end(alloc, &ending, fill)
 }
 
 /// A command on an empty output, and sixteen blocks of zeros.
