@@ -1,7 +1,7 @@
 -- What a step leaves of the pages that it doesn't touch, whichever call it makes.
 use Rattle.std.proofs.Common.{Bool, List, None, Option, Some, [], ap, arith, drop, false, inl, inr, length, map, max, refl, subst, suc, sym, take, true, zero, ℕ, ⊎_elim, ◌&&◌, ◌*◌, ◌++◌, ◌+◌, ◌-◌, ◌/◌, ◌<◌, ◌==◌, ◌^◌, ◌||◌, ◌∙◌, ◌∷◌, ◌≡◌, ◌≤◌, ◌⊎◌}
 use Rattle.std.proofs.lemmas.Bool.{eq-eqb, eqb-true, ltb-false, ltb-true}
-use Rattle.std.proofs.lemmas.List.{append-nil, drop-set-add, drop-set-lt, take-set-le}
+use Rattle.std.proofs.lemmas.List.{append-nil, drop-set-add, drop-set-lt, nil_from_length, take-set-le}
 use Rattle.std.proofs.lemmas.List.Elements.{All-cons, All-filter, All-nil, All-push}
 use Rattle.std.proofs.lemmas.List.Folds.{list_any-append}
 use Rattle.std.specs.List.{filter_map, flat_map, list_all, list_any, range_with_len}
@@ -35,7 +35,7 @@ use Rattle.group_laws.proofs.NewFileLaws.{zeros_are_zero, zeros_length}
 use Rattle.group_laws.proofs.ObjectBytes.{left_or_gone, replaced_other}
 use Rattle.group_laws.proofs.OthersBytes.{open_has}
 use Rattle.group_laws.proofs.Replies.{Leaves, Opened, Plain, call_holds, clone_leaves, openat_leaves, with_put, write_reply}
-use Rattle.group_laws.proofs.SeenLaws.{bytes_other, bytes_same}
+use Rattle.group_laws.proofs.SeenLaws.{bytes_other, bytes_same, size_kept_at}
 use Rattle.group_laws.proofs.WriteFileLaws.{zeros_behind}
 use Rattle.lists.specs.Bytes.{length-put, put}
 use Rattle.run_laws.proofs.FileBytes.{not_between, or_both, put_kept, zero_page_same, zeros_page}
@@ -94,18 +94,32 @@ writes_kept memory maps (w ∷ ws) page e =
     let parts = apart (pages_at maps w.address w.bytes) (pages_of_writes maps ws) page e in
     writes_kept (with_stored memory maps w.address w.bytes) maps ws page parts.1 ∙ bytes_kept memory maps w.address w.bytes page parts.0
 
+-- bytes stored change no object's size, so what isn't there has none
+stored_size : (memory : List (ℕ × List ℕ)) (maps : List Mapping) (n a : ℕ) (bytes : List ℕ) → length (bytes_in (with_stored memory maps a bytes) n) ≡ length (bytes_in memory n)
+unfolding with_stored
+stored_size memory maps n a [] = refl
+stored_size memory maps n a (b ∷ bs) = stored_size (with_byte_at memory (mapping_at maps (wrapped a)) (wrapped a) b) maps n (a + 1) bs ∙ size_kept_at memory (wrapped a) b n (mapping_at maps (wrapped a))
+
+writes_size : (memory : List (ℕ × List ℕ)) (maps : List Mapping) (n : ℕ) (writes : List Write) → length (bytes_in (with_writes memory maps writes) n) ≡ length (bytes_in memory n)
+unfolding with_writes
+writes_size memory maps n [] = refl
+writes_size memory maps n (w ∷ ws) = writes_size (with_stored memory maps w.address w.bytes) maps n ws ∙ stored_size memory maps n w.address w.bytes
+
+writes_gone : (memory : List (ℕ × List ℕ)) (maps : List Mapping) (n : ℕ) (writes : List Write) → bytes_in memory n ≡ [] → bytes_in (with_writes memory maps writes) n ≡ []
+writes_gone memory maps n writes e = nil_from_length (bytes_in (with_writes memory maps writes) n) (writes_size memory maps n writes ∙ ap length e)
+
 -- the page's bytes are as before, or its object has gone
 abbrev pub Stays : List (ℕ × List ℕ) → List (ℕ × List ℕ) → ℕ × ℕ → Type 0
-Stays before after page = (page_bytes after page ≡ page_bytes before page) ⊎ (page_bytes after page ≡ [])
+Stays before after page = (page_bytes after page ≡ page_bytes before page) ⊎ (bytes_in after page.0 ≡ [])
 
 pub none_left : (n : ℕ) → take {A = ℕ} 4096 (drop n []) ≡ []
 none_left zero = refl
 none_left (suc n) = refl
 
-pub stays_then : (a b c : List (ℕ × List ℕ)) (page : ℕ × ℕ) → Stays a b page → Stays b c page → Stays a c page
-stays_then a b c page x (inr gone) = inr gone
-stays_then a b c page (inl e) (inl f) = inl (f ∙ e)
-stays_then a b c page (inr gone) (inl f) = inr (f ∙ gone)
+pub stays_then : (a b c : List (ℕ × List ℕ)) (page : ℕ × ℕ) → (bytes_in b page.0 ≡ [] → bytes_in c page.0 ≡ []) → Stays a b page → Stays b c page → Stays a c page
+stays_then a b c page none x (inr gone) = inr gone
+stays_then a b c page none (inl e) (inl f) = inl (f ∙ e)
+stays_then a b c page none (inr gone) (inl f) = inr (none gone)
 
 both_false : (a b : Bool) → (a ≡ false) ⊎ (b ≡ false) → (a && b) ≡ false
 both_false false b e = refl
@@ -126,6 +140,7 @@ pub record Follows (g : Group) (so_far touched : List (ℕ × ℕ)) (next : ℕ)
   pub rises : g.frame.next.object ≤ next
   pub old : (page : ℕ × ℕ) → is_among touched page ≡ false → page.0 < g.frame.next.object → Stays g.memory memory page
   pub new : (page : ℕ × ℕ) → is_among touched page ≡ false → g.frame.next.object ≤ page.0 → IsNew g so_far memory page
+  pub gone : (n : ℕ) → n < g.frame.next.object → bytes_in g.memory n ≡ [] → bytes_in memory n ≡ []
 
 -- an object that was there before, or may have been, is a file's afterwards only where it was one before
 abbrev pub OldFiles : Group → Group → Type 0
@@ -136,18 +151,18 @@ StepLeaves g so_far touched h = StandsIn h × Follows g so_far touched h.frame.n
 
 -- where all pages follow, those follow that aren't touched
 all_follow : (g : Group) (so_far touched : List (ℕ × ℕ)) (next : ℕ) (memory : List (ℕ × List ℕ)) → Follows g so_far [] next memory → Follows g so_far touched next memory
-all_follow g so_far touched next memory f = record { rises = f.rises; old = λ page e lt. f.old page refl lt; new = λ page e le. f.new page refl le }
+all_follow g so_far touched next memory f = record { rises = f.rises; old = λ page e lt. f.old page refl lt; new = λ page e le. f.new page refl le; gone = f.gone }
 
-zero_page : (memory : List (ℕ × List ℕ)) (page : ℕ × ℕ) → bytes_in memory page.0 ≡ [] → is_zero_page memory page ≡ true
+pub zero_page : (memory : List (ℕ × List ℕ)) (page : ℕ × ℕ) → bytes_in memory page.0 ≡ [] → is_zero_page memory page ≡ true
 zero_page memory page e = ap (λ (bs : List ℕ). list_all (λ b. b == 0) (take 4096 (drop (4096 * page.1) bs))) e ∙ ap (λ (bs : List ℕ). list_all (λ b. b == 0) bs) (none_left (4096 * page.1))
 
 -- where a page isn't among those touched by more, it isn't among those touched
 pub fewer_follow : (g : Group) (so_far touched more : List (ℕ × ℕ)) (next : ℕ) (memory : List (ℕ × List ℕ)) → ((page : ℕ × ℕ) → is_among more page ≡ false → is_among touched page ≡ false) → Follows g so_far touched next memory → Follows g so_far more next memory
-fewer_follow g so_far touched more next memory fewer f = record { rises = f.rises; old = λ page e lt. f.old page (fewer page e) lt; new = λ page e le. f.new page (fewer page e) le }
+fewer_follow g so_far touched more next memory fewer f = record { rises = f.rises; old = λ page e lt. f.old page (fewer page e) lt; new = λ page e le. f.new page (fewer page e) le; gone = f.gone }
 
 -- where nothing is changed
 none_changed : (g : Group) (so_far : List (ℕ × ℕ)) → StandsIn g → Follows g so_far [] g.frame.next.object g.memory
-none_changed g so_far s = record { rises = omega arith; old = λ page e lt. inl refl; new = λ page e le. inl (zero_page g.memory page (absent g.frame.next.object g.memory page.0 s.numbers le)) }
+none_changed g so_far s = record { rises = omega arith; old = λ page e lt. inl refl; new = λ page e le. inl (zero_page g.memory page (absent g.frame.next.object g.memory page.0 s.numbers le)); gone = λ n lt e. e }
 
 pub nothing_leaves : (g : Group) (so_far touched : List (ℕ × ℕ)) → StandsIn g → StepLeaves g so_far touched g
 nothing_leaves g so_far touched s = (s, all_follow g so_far touched g.frame.next.object g.memory (none_changed g so_far s), λ n lt e. e)
@@ -163,15 +178,19 @@ module _ (g : Group) (p : Proc) (so_far : List (ℕ × ℕ)) (s : StandsIn g) (m
   unfolding settled
   settled_follow touched h f = record {
     rises = f.rises;
-    old = λ page e lt. stays_then g.memory h.memory (settled h).memory page (f.old page e lt) (stays page);
+    old = λ page e lt. stays_then g.memory h.memory (settled h).memory page (none page.0) (f.old page e lt) (stays page);
     new = λ page e le. by_new page (f.new page e le) (stays page);
+    gone = λ n lt e. none n (f.gone n lt e);
   }
     where
       stays : (page : ℕ × ℕ) → Stays h.memory (settled h).memory page
-      stays page = ⊎_elim (λ e. inl (ap (part page.1) e)) (λ e. inr (ap (part page.1) e ∙ none_left (4096 * page.1))) (left_or_gone (λ k. is_kept h.frame.files h.frame.procs k) page.0 h.memory)
+      stays page = ⊎_elim (λ e. inl (ap (part page.1) e)) (λ e. inr e) (left_or_gone (λ k. is_kept h.frame.files h.frame.procs k) page.0 h.memory)
+
+      none : (n : ℕ) → bytes_in h.memory n ≡ [] → bytes_in (settled h).memory n ≡ []
+      none n is = ⊎_elim (λ e. e ∙ is) (λ e. e) (left_or_gone (λ k. is_kept h.frame.files h.frame.procs k) n h.memory)
 
       by_new : (page : ℕ × ℕ) → IsNew g so_far h.memory page → Stays h.memory (settled h).memory page → IsNew g so_far (settled h).memory page
-      by_new page n (inr gone) = inl (ap (λ (bs : List ℕ). list_all (λ b. b == 0) bs) gone)
+      by_new page n (inr gone) = inl (zero_page (settled h).memory page gone)
       by_new page (inl none) (inl e) = inl (ap (λ (bs : List ℕ). list_all (λ b. b == 0) bs) e ∙ none)
       by_new page (inr (k, is, untouched)) (inl e) = inr (k, e ∙ is, untouched)
 
@@ -180,6 +199,7 @@ module _ (g : Group) (p : Proc) (so_far : List (ℕ × ℕ)) (s : StandsIn g) (m
     rises = omega arith;
     old = λ page e lt. inl (ap (part page.1) (old_bytes g 1 more from s page.0 lt));
     new = λ page e le. inl (ap (λ (bs : List ℕ). list_all (λ b. b == 0) (part page.1 bs)) (only_more g.memory more page.0 (none_there next g.memory page.0 s.numbers le)) ∙ by_test page (next == page.0));
+    gone = λ n lt e. old_bytes g 1 more from s n lt ∙ e;
   }
     where
       more : List (ℕ × List ℕ)
@@ -199,6 +219,7 @@ module _ (g : Group) (p : Proc) (so_far : List (ℕ × ℕ)) (s : StandsIn g) (m
     rises = omega arith;
     old = λ page e lt. inl (by_test page e (object == page.0) refl);
     new = λ page e le. inl (zero_page memory page (replaced_other g.memory object bytes page.0 (above page.0 le) ∙ absent next g.memory page.0 s.numbers le));
+    gone = λ n lt e. by_gone n e (object == n) refl;
   }
     where
       memory : List (ℕ × List ℕ)
@@ -210,6 +231,13 @@ module _ (g : Group) (p : Proc) (so_far : List (ℕ × ℕ)) (s : StandsIn g) (m
           by_number : (b : Bool) → (object == n) ≡ b → b ≡ false
           by_number false e = refl
           by_number true e = let same = eqb-true object n e in let less = s.below object file in absurd (omega (arith, same, less, le))
+
+      by_gone : (n : ℕ) → bytes_in g.memory n ≡ [] → (b : Bool) → (object == n) ≡ b → bytes_in memory n ≡ []
+      by_gone n e false other = replaced_other g.memory object bytes n other ∙ e
+      by_gone n e true hit =
+          let size = (s.contents object file).0 in
+          let none : length (bytes_in g.memory object) ≡ 0 = ap (λ k. length (bytes_in g.memory k)) (eqb-true object n hit) ∙ ap length e in
+          absurd (omega (arith, size, none))
 
       by_test : (page : ℕ × ℕ) → is_among touched page ≡ false → (b : Bool) → (object == page.0) ≡ b → page_bytes memory page ≡ page_bytes g.memory page
       by_test page e false other = ap (part page.1) (replaced_other g.memory object bytes page.0 other)
@@ -385,6 +413,7 @@ module _ (g : Group) (p : Proc) (so_far : List (ℕ × ℕ)) (s : StandsIn g) (m
           rises = omega arith;
           old = λ page e lt. inl (ap (part page.1) (old_bytes g (length copies) (copied g.memory copies) from' s page.0 lt));
           new = λ page e le. by_copy page copies (only_more g.memory (copied g.memory copies) page.0 (none_there next g.memory page.0 s.numbers le)) (found_copy page.0 page.1 copies e);
+          gone = λ n lt e. old_bytes g (length copies) (copied g.memory copies) from' s n lt ∙ e;
         },
         old_files,
       )
@@ -437,8 +466,9 @@ module _ (g : Group) (p : Proc) (so_far : List (ℕ × ℕ)) (s : StandsIn g) (m
   written_follow : (beside : List (ℕ × ℕ)) (n : ℕ) (memory : List (ℕ × List ℕ)) (writes : List Write) → Follows g so_far beside n memory → Follows g so_far (pages_of_writes p.maps writes ++ beside) n (with_writes memory p.maps writes)
   written_follow beside n memory writes f = record {
     rises = f.rises;
-    old = λ page e lt. let parts = apart (pages_of_writes p.maps writes) beside page e in ⊎_elim (λ same. inl (writes_kept memory p.maps writes page parts.0 ∙ same)) (λ gone. inr (writes_kept memory p.maps writes page parts.0 ∙ gone)) (f.old page parts.1 lt);
+    old = λ page e lt. let parts = apart (pages_of_writes p.maps writes) beside page e in ⊎_elim (λ same. inl (writes_kept memory p.maps writes page parts.0 ∙ same)) (λ gone. inr (writes_gone memory p.maps page.0 writes gone)) (f.old page parts.1 lt);
     new = λ page e le. let parts = apart (pages_of_writes p.maps writes) beside page e in by_new page (writes_kept memory p.maps writes page parts.0) (f.new page parts.1 le);
+    gone = λ n lt e. writes_gone memory p.maps n writes (f.gone n lt e);
   }
     where
       by_new : (page : ℕ × ℕ) → page_bytes (with_writes memory p.maps writes) page ≡ page_bytes memory page → IsNew g so_far memory page → IsNew g so_far (with_writes memory p.maps writes) page

@@ -23,7 +23,7 @@ use Rattle.run_defs.specs.Turns.{steps_of, turned}
 use Rattle.run_laws.specs.Untouched.{LeavesUntouched}
 use Rattle.run_laws.proofs.FileBytes.{not_between, or_both}
 use Rattle.run_laws.proofs.FilesStand.{OfMemory, StandsIn, valid_stands}
-use Rattle.run_laws.proofs.PageLaws.{Follows, IsNew, Stays, StepLeaves, apart, by_effect, call_step, fewer_follow, none_left, nothing_leaves, stays_then}
+use Rattle.run_laws.proofs.PageLaws.{Follows, IsNew, Stays, StepLeaves, apart, by_effect, call_step, fewer_follow, none_left, nothing_leaves, stays_then, zero_page}
 use Rattle.run_laws.proofs.TurnLaws.{step_cases}
 
 -- a running process maps objects that are there and aren't files'
@@ -36,7 +36,7 @@ pub calls_leave : (durable : Bool) (g : Group) (pid : ℕ) (p : Proc) (number : 
 calls_leave durable g pid p number so_far valid found =
     let s = valid_stands g valid in
     let l = call_step g p so_far s (runner_maps g pid p s found) durable number in
-    record { stay = λ page e lt. l.1.old page e lt }
+    record { stay = λ page lt e. l.1.old page e lt }
 
 -- what is touched stays touched
 step_before : (durable : Bool) (g : Group) (pid : ℕ) (so_far : List (ℕ × ℕ)) (page : ℕ × ℕ) → is_among (touched_with_step durable g pid so_far) page ≡ false → is_among so_far page ≡ false
@@ -87,7 +87,7 @@ covers_more g h so_far touched more f covers page some = by_touch (is_among touc
 
     of_old : is_among so_far page ≡ false → Stays g.memory h.memory page → ⊥
     of_old before (inl same) = let covered = was_touched page.0 same in absurd (cc)
-    of_old before (inr gone) = let zeros : is_zero_page h.memory page ≡ true = ap (λ (bytes : List ℕ). list_all (λ b. b == 0) bytes) gone in absurd (cc)
+    of_old before (inr gone) = let zeros = zero_page h.memory page gone in absurd (cc)
 
     of_new : IsNew g so_far h.memory page → ⊥
     of_new (inl zeros) = absurd (cc)
@@ -118,11 +118,14 @@ one_more g s pid so_far touched first = step_cases (λ t. Leaves g so_far after_
     before : (page : ℕ × ℕ) → is_among after_it page ≡ false → is_among touched page ≡ false
     before page e = step_before (is_durable s.standing pid) s.group pid touched page e
 
+    below : (n : ℕ) → n < g.frame.next.object → n < s.group.frame.next.object
+    below n lt = let rises = first.rises in omega (arith, lt, rises)
+
     more : (h : Group) → StepLeaves s.group touched after_it h → Leaves g so_far after_it h
     more h l = record {
       stands = l.0;
       rises = (let first_rises = first.rises in let then_rises = l.1.rises in omega (arith, first_rises, then_rises));
-      stays = λ page e lt. stays_then g.memory s.group.memory h.memory page (first.stays page (before page e) lt) (l.1.old page e (let rises = first.rises in omega (arith, lt, rises)));
+      stays = λ page e lt. let still = below page.0 lt in stays_then g.memory s.group.memory h.memory page (l.1.gone page.0 still) (first.stays page (before page e) lt) (l.1.old page e still);
       covers = λ c. covers_more s.group h touched after_it before l.1 (first.covers c);
     }
 
@@ -139,7 +142,7 @@ steps_leave s pid (suc n) so_far stands = one_more s.group (steps_of s pid n) pi
 
 -- a turn in a valid group changes no page that it doesn't touch
 pub turn_leaves : (quantum : ℕ) (s : State) (pid n : ℕ) (so_far : List (ℕ × ℕ)) → GroupIsValid s.group → LeavesUntouched s.group (touched_with_turn quantum s pid n so_far) (turned quantum s pid n).group
-turn_leaves quantum s pid n so_far valid = record { stay = (steps_leave s pid _ so_far (valid_stands s.group valid)).stays }
+turn_leaves quantum s pid n so_far valid = record { stay = λ page lt e. (steps_leave s pid _ so_far (valid_stands s.group valid)).stays page e lt }
 
 -- a place of a run before its first barrier
 record IsCovered (r : Progress) : Type 0 where
