@@ -38,6 +38,7 @@ use Rattle.group_laws.proofs.Replies.{Leaves, Opened, Plain, call_holds, clone_l
 use Rattle.group_laws.proofs.SeenLaws.{bytes_other, bytes_same, size_kept_at}
 use Rattle.group_laws.proofs.WriteFileLaws.{zeros_behind}
 use Rattle.lists.specs.Bytes.{length-put, put}
+use Rattle.run_laws.specs.Untouched.{IsZeroOrCopy}
 use Rattle.run_laws.proofs.FileBytes.{not_between, or_both, put_kept, zero_page_same, zeros_page}
 use Rattle.run_laws.proofs.FilesStand.{IsAtFile, IsContent, OfMemory, StandsIn, absent, changed_stands, content_stands, copied, copied_from, copies_from_next, cut_of, ended_stands, forked_stands, its_length, its_new_file, mapped_stands, new_file_old, new_file_stands, none_there, of_before, old_bytes, only_more, opens_stand, procs_stand, replaced_same, same_files, settled_stands, stored_stands}
 use Rattle.rv64_isa.specs.Instruction.{Effect, calls, list_of, steps, traps}
@@ -131,15 +132,11 @@ both_false true true (inr e) = e
 abbrev part : ℕ → List ℕ → List ℕ
 part page bytes = take 4096 (drop (4096 * page) bytes)
 
--- a page of an object that is new: it has zeros, or it is the copy of a page that wasn't touched
-abbrev pub IsNew : Group → List (ℕ × ℕ) → List (ℕ × List ℕ) → ℕ × ℕ → Type 0
-IsNew g so_far memory page = (is_zero_page memory page ≡ true) ⊎ ((k : ℕ) × (page_bytes memory page ≡ page_bytes g.memory (k, page.1)) × (is_among so_far (k, page.1) ≡ false))
-
 -- What a step leaves of the pages that it doesn't touch.
 pub record Follows (g : Group) (so_far touched : List (ℕ × ℕ)) (next : ℕ) (memory : List (ℕ × List ℕ)) : Type 0 where
   pub rises : g.frame.next.object ≤ next
   pub old : (page : ℕ × ℕ) → is_among touched page ≡ false → page.0 < g.frame.next.object → Stays g.memory memory page
-  pub new : (page : ℕ × ℕ) → is_among touched page ≡ false → g.frame.next.object ≤ page.0 → IsNew g so_far memory page
+  pub new : (page : ℕ × ℕ) → is_among touched page ≡ false → g.frame.next.object ≤ page.0 → IsZeroOrCopy g so_far memory page
   pub gone : (n : ℕ) → n < g.frame.next.object → bytes_in g.memory n ≡ [] → bytes_in memory n ≡ []
 
 -- an object that was there before, or may have been, is a file's afterwards only where it was one before
@@ -189,7 +186,7 @@ module _ (g : Group) (p : Proc) (so_far : List (ℕ × ℕ)) (s : StandsIn g) (m
       none : (n : ℕ) → bytes_in h.memory n ≡ [] → bytes_in (settled h).memory n ≡ []
       none n is = ⊎_elim (λ e. e ∙ is) (λ e. e) (left_or_gone (λ k. is_kept h.frame.files h.frame.procs k) n h.memory)
 
-      by_new : (page : ℕ × ℕ) → IsNew g so_far h.memory page → Stays h.memory (settled h).memory page → IsNew g so_far (settled h).memory page
+      by_new : (page : ℕ × ℕ) → IsZeroOrCopy g so_far h.memory page → Stays h.memory (settled h).memory page → IsZeroOrCopy g so_far (settled h).memory page
       by_new page n (inr gone) = inl (zero_page (settled h).memory page gone)
       by_new page (inl none) (inl e) = inl (ap (λ (bs : List ℕ). list_all (λ b. b == 0) bs) e ∙ none)
       by_new page (inr (k, is, untouched)) (inl e) = inr (k, e ∙ is, untouched)
@@ -419,7 +416,7 @@ module _ (g : Group) (p : Proc) (so_far : List (ℕ × ℕ)) (s : StandsIn g) (m
       )
     where
       by_copy : (page : ℕ × ℕ) (copies : List Copy) → bytes_in (g.memory ++ copied g.memory copies) page.0 ≡ bytes_in (copied g.memory copies) page.0
-          → (bytes_in (copied g.memory copies) page.0 ≡ []) ⊎ ((j : ℕ) × (bytes_in (copied g.memory copies) page.0 ≡ bytes_in g.memory j) × (is_among so_far (j, page.1) ≡ false)) → IsNew g so_far (g.memory ++ copied g.memory copies) page
+          → (bytes_in (copied g.memory copies) page.0 ≡ []) ⊎ ((j : ℕ) × (bytes_in (copied g.memory copies) page.0 ≡ bytes_in g.memory j) × (is_among so_far (j, page.1) ≡ false)) → IsZeroOrCopy g so_far (g.memory ++ copied g.memory copies) page
       by_copy page copies same (inl none) = inl (zero_page (g.memory ++ copied g.memory copies) page (same ∙ none))
       by_copy page copies same (inr (j, is, untouched)) = inr (j, ap (part page.1) (same ∙ is), untouched)
 
@@ -471,7 +468,7 @@ module _ (g : Group) (p : Proc) (so_far : List (ℕ × ℕ)) (s : StandsIn g) (m
     gone = λ n lt e. writes_gone memory p.maps n writes (f.gone n lt e);
   }
     where
-      by_new : (page : ℕ × ℕ) → page_bytes (with_writes memory p.maps writes) page ≡ page_bytes memory page → IsNew g so_far memory page → IsNew g so_far (with_writes memory p.maps writes) page
+      by_new : (page : ℕ × ℕ) → page_bytes (with_writes memory p.maps writes) page ≡ page_bytes memory page → IsZeroOrCopy g so_far memory page → IsZeroOrCopy g so_far (with_writes memory p.maps writes) page
       by_new page same (inl none) = inl (ap (λ (bs : List ℕ). list_all (λ b. b == 0) bs) same ∙ none)
       by_new page same (inr (k, is, untouched)) = inr (k, same ∙ is, untouched)
 

@@ -20,10 +20,10 @@ use Rattle.run_defs.specs.Touched.{touched_with_steps, touched_with_turn}
 use Rattle.run_defs.specs.Marks.{is_barrier}
 use Rattle.run_defs.specs.Progress.{Progress, after_mark, checkpoint, progress_after, progress_at}
 use Rattle.run_defs.specs.Turns.{steps_of, turned}
-use Rattle.run_laws.specs.Untouched.{LeavesUntouched}
+use Rattle.run_laws.specs.Untouched.{IsZeroOrCopy, LeavesUntouched}
 use Rattle.run_laws.proofs.FileBytes.{not_between, or_both}
 use Rattle.run_laws.proofs.FilesStand.{OfMemory, StandsIn, valid_stands}
-use Rattle.run_laws.proofs.PageLaws.{Follows, IsNew, Stays, StepLeaves, apart, by_effect, call_step, fewer_follow, none_left, nothing_leaves, stays_then, zero_page}
+use Rattle.run_laws.proofs.PageLaws.{Follows, Stays, StepLeaves, apart, by_effect, call_step, fewer_follow, none_left, nothing_leaves, stays_then, zero_page}
 use Rattle.run_laws.proofs.TurnLaws.{step_cases}
 
 -- a running process maps objects that are there and aren't files'
@@ -32,11 +32,11 @@ unfolding runner
 runner_maps g pid p s found = found_all (is_runner pid) (λ q. OfMemory g.frame.next.object g.frame.files q.maps) g.frame.procs p found s.unmapped
 
 -- each call that is defined, in a valid group
-pub calls_leave : (durable : Bool) (g : Group) (pid : ℕ) (p : Proc) (number : ℕ) (so_far : List (ℕ × ℕ)) → GroupIsValid g → runner g pid ≡ Some p → LeavesUntouched g (touched_by_reply g p so_far number (call_in durable g p number)) (after_reply g p (call_in durable g p number))
+pub calls_leave : (durable : Bool) (g : Group) (pid : ℕ) (p : Proc) (number : ℕ) (so_far : List (ℕ × ℕ)) → GroupIsValid g → runner g pid ≡ Some p → LeavesUntouched g so_far (touched_by_reply g p so_far number (call_in durable g p number)) (after_reply g p (call_in durable g p number))
 calls_leave durable g pid p number so_far valid found =
     let s = valid_stands g valid in
     let l = call_step g p so_far s (runner_maps g pid p s found) durable number in
-    record { stay = λ page lt e. l.1.old page e lt }
+    record { stay = λ page lt e. l.1.old page e lt; new = λ page le e. l.1.new page e le }
 
 -- what is touched stays touched
 step_before : (durable : Bool) (g : Group) (pid : ℕ) (so_far : List (ℕ × ℕ)) (page : ℕ × ℕ) → is_among (touched_with_step durable g pid so_far) page ≡ false → is_among so_far page ≡ false
@@ -89,7 +89,7 @@ covers_more g h so_far touched more f covers page some = by_touch (is_among touc
     of_old before (inl same) = let covered = was_touched page.0 same in absurd (cc)
     of_old before (inr gone) = let zeros = zero_page h.memory page gone in absurd (cc)
 
-    of_new : IsNew g so_far h.memory page → ⊥
+    of_new : IsZeroOrCopy g so_far h.memory page → ⊥
     of_new (inl zeros) = absurd (cc)
     of_new (inr (k, same, untouched)) = let covered = was_touched k same in absurd (cc)
 
@@ -106,7 +106,47 @@ record Leaves (g : Group) (so_far touched : List (ℕ × ℕ)) (h : Group) : Typ
   pub stands : StandsIn h
   pub rises : g.frame.next.object ≤ h.frame.next.object
   pub stays : (page : ℕ × ℕ) → is_among touched page ≡ false → page.0 < g.frame.next.object → Stays g.memory h.memory page
+  pub grows : (page : ℕ × ℕ) → is_among touched page ≡ false → is_among so_far page ≡ false
+  pub new : (page : ℕ × ℕ) → is_among touched page ≡ false → g.frame.next.object ≤ page.0 → IsZeroOrCopy g so_far h.memory page
   pub covers : Covers so_far g.memory → Covers touched h.memory
+
+-- ---- a new page stays zero or a copy
+
+zero_as : (a b : List (ℕ × List ℕ)) (x y : ℕ × ℕ) → page_bytes b y ≡ page_bytes a x → is_zero_page a x ≡ true → is_zero_page b y ≡ true
+zero_as a b x y same zeros = ap (λ (bytes : List ℕ). list_all (λ b. b == 0) bytes) same ∙ zeros
+
+-- the same bytes in a later memory
+copy_on : (g : Group) (so_far : List (ℕ × ℕ)) (a b : List (ℕ × List ℕ)) (object other page : ℕ) → page_bytes b (object, page) ≡ page_bytes a (other, page) → IsZeroOrCopy g so_far a (other, page) → IsZeroOrCopy g so_far b (object, page)
+copy_on g so_far a b object other page same (inl zeros) = inl (zero_as a b (other, page) (object, page) same zeros)
+copy_on g so_far a b object other page same (inr (k, copy, untouched)) = inr (k, same ∙ copy, untouched)
+
+-- of an older page that nobody touched
+copy_of : (g : Group) (so_far touched : List (ℕ × ℕ)) (h : Group) (first : Leaves g so_far touched h) (k page : ℕ) → is_among touched (k, page) ≡ false → IsZeroOrCopy g so_far h.memory (k, page)
+copy_of g so_far touched h first k page untouched = by_order (cases_lt k g.frame.next.object)
+  where
+    by_old : Stays g.memory h.memory (k, page) → IsZeroOrCopy g so_far h.memory (k, page)
+    by_old (inl same) = inr (k, same, first.grows (k, page) untouched)
+    by_old (inr gone) = inl (zero_page h.memory (k, page) gone)
+
+    by_order : (k < g.frame.next.object) ⊎ (g.frame.next.object ≤ k) → IsZeroOrCopy g so_far h.memory (k, page)
+    by_order (inl lt) = by_old (first.stays (k, page) untouched lt)
+    by_order (inr le) = first.new (k, page) untouched le
+
+new_then : (g : Group) (so_far touched after_it : List (ℕ × ℕ)) (h h' : Group) (first : Leaves g so_far touched h) → Follows h touched after_it h'.frame.next.object h'.memory → ((page : ℕ × ℕ) → is_among after_it page ≡ false → is_among touched page ≡ false)
+    → (page : ℕ × ℕ) → is_among after_it page ≡ false → g.frame.next.object ≤ page.0 → IsZeroOrCopy g so_far h'.memory page
+new_then g so_far touched after_it h h' first f before page e le = by_order (cases_lt page.0 h.frame.next.object)
+  where
+    by_old : Stays h.memory h'.memory page → IsZeroOrCopy g so_far h'.memory page
+    by_old (inl same) = copy_on g so_far h.memory h'.memory page.0 page.0 page.1 same (first.new page (before page e) le)
+    by_old (inr gone) = inl (zero_page h'.memory page gone)
+
+    by_new : IsZeroOrCopy h touched h'.memory page → IsZeroOrCopy g so_far h'.memory page
+    by_new (inl zeros) = inl zeros
+    by_new (inr (k, same, untouched)) = copy_on g so_far h.memory h'.memory page.0 k page.1 same (copy_of g so_far touched h first k page.1 untouched)
+
+    by_order : (page.0 < h.frame.next.object) ⊎ (h.frame.next.object ≤ page.0) → IsZeroOrCopy g so_far h'.memory page
+    by_order (inl lt) = by_old (f.old page e lt)
+    by_order (inr over) = by_new (f.new page e over)
 
 -- one more step
 one_more : (g : Group) (s : State) (pid : ℕ) (so_far touched : List (ℕ × ℕ)) → Leaves g so_far touched s.group → Leaves g so_far (touched_with_step (is_durable s.standing pid) s.group pid touched) (do_step s pid).group
@@ -126,6 +166,8 @@ one_more g s pid so_far touched first = step_cases (λ t. Leaves g so_far after_
       stands = l.0;
       rises = (let first_rises = first.rises in let then_rises = l.1.rises in omega (arith, first_rises, then_rises));
       stays = λ page e lt. let still = below page.0 lt in stays_then g.memory s.group.memory h.memory page (l.1.gone page.0 still) (first.stays page (before page e) lt) (l.1.old page e still);
+      grows = λ page e. first.grows page (before page e);
+      new = new_then g so_far touched after_it s.group h first l.1 before;
       covers = λ c. covers_more s.group h touched after_it before l.1 (first.covers c);
     }
 
@@ -137,12 +179,12 @@ one_more g s pid so_far touched first = step_cases (λ t. Leaves g so_far after_
 
 steps_leave : (s : State) (pid n : ℕ) (so_far : List (ℕ × ℕ)) → StandsIn s.group → Leaves s.group so_far (touched_with_steps s pid n so_far) (steps_of s pid n).group
 unfolding steps_of touched_with_steps
-steps_leave s pid zero so_far stands = record { stands = stands; rises = omega arith; stays = λ page e lt. inl refl; covers = λ c. c }
+steps_leave s pid zero so_far stands = record { stands = stands; rises = omega arith; stays = λ page e lt. inl refl; grows = λ page e. e; new = (nothing_leaves s.group so_far so_far stands).1.new; covers = λ c. c }
 steps_leave s pid (suc n) so_far stands = one_more s.group (steps_of s pid n) pid so_far (touched_with_steps s pid n so_far) (steps_leave s pid n so_far stands)
 
 -- a turn in a valid group changes no page that it doesn't touch
-pub turn_leaves : (quantum : ℕ) (s : State) (pid n : ℕ) (so_far : List (ℕ × ℕ)) → GroupIsValid s.group → LeavesUntouched s.group (touched_with_turn quantum s pid n so_far) (turned quantum s pid n).group
-turn_leaves quantum s pid n so_far valid = record { stay = λ page lt e. (steps_leave s pid _ so_far (valid_stands s.group valid)).stays page e lt }
+pub turn_leaves : (quantum : ℕ) (s : State) (pid n : ℕ) (so_far : List (ℕ × ℕ)) → GroupIsValid s.group → LeavesUntouched s.group so_far (touched_with_turn quantum s pid n so_far) (turned quantum s pid n).group
+turn_leaves quantum s pid n so_far valid = let l = steps_leave s pid _ so_far (valid_stands s.group valid) in record { stay = λ page lt e. l.stays page e lt; new = λ page le e. l.new page e le }
 
 -- a place of a run before its first barrier
 record IsCovered (r : Progress) : Type 0 where

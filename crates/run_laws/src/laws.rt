@@ -247,17 +247,18 @@ pub fn one_trace_on_one_thread()
 {}
 
 /// A turn in a valid group, and each call that is defined, changes no page that it doesn't touch, of an object that was there
-/// before: its bytes stay, or its object has gone. What was touched stays touched until the barrier, which begins an interval
-/// anew.
+/// before: its bytes stay, or its object has gone. A page of a new object that isn't touched is all zero, or the copy of one
+/// that wasn't touched so far. What was touched stays touched until the barrier, which begins an interval anew.
 pub fn untouched_pages_stay()
     ensures stay { (quantum : ℕ) (s : State) (pid n : ℕ) (so_far : List (ℕ × ℕ))
         → GroupIsValid s.group
-        → LeavesUntouched s.group (touched_with_turn quantum s pid n so_far)
+        → LeavesUntouched s.group so_far (touched_with_turn quantum s pid n so_far)
         (turned quantum s pid n).group }
     ensures calls { (durable : Bool) (g : Group) (pid : ℕ) (p : Proc) (number : ℕ)
         (so_far : List (ℕ × ℕ)) → GroupIsValid g → runner g pid ≡ Some p
         → let reply = call_in durable g p number in
-        LeavesUntouched g (touched_by_reply g p so_far number reply) (after_reply g p reply) }
+        LeavesUntouched g so_far (touched_by_reply g p so_far number reply)
+        (after_reply g p reply) }
     ensures grow { (quantum : ℕ) (s : State) (pid n : ℕ) (so_far : List (ℕ × ℕ)) (page : ℕ × ℕ)
         → is_among so_far page ≡ true
         → is_among (touched_with_turn quantum s pid n so_far) page ≡ true }
