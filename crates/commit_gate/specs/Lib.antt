@@ -7,3 +7,4 @@ pub mod Phases
 pub mod SlotLaws
 pub mod ImageLaws
 pub mod FinishedLaws
+pub mod CallLaws
