@@ -21,8 +21,8 @@ use Rattle.run_laws.proofs.TurnLaws.{turn_epochs}
 use Rattle.ckpt_records.specs.Origin.{IsWithin}
 use Rattle.commit_gate.specs.Whole.{calls_more}
 use Rattle.sls_core.specs.Answers.{EndsFor, IsSoloRun}
-use Rattle.sls_core.specs.Committed.{AreCommitsOf, IsOnlyCommitted, TellsMore, WholeCommit, calls_of, images_after, told_commit}
-use Rattle.sls_core.specs.Safe.{HoldsOne, IsUnwritten, NeverFall, RunSoFar, Safe, last_acked, last_group, run_of}
+use Rattle.sls_core.specs.Committed.{AreCommitsOf, AreUnacknowledged, IsOnlyCommitted, TellsAcknowledged, TellsMore, WholeCommit, calls_of, images_after, told_commit}
+use Rattle.sls_core.specs.Safe.{HasNoneBegun, HoldsOne, IsUnwritten, NeverFall, RunSoFar, Safe, last_acked, last_group, run_of}
 use Rattle.sls_core.specs.declared.run.RunAnswer.{RunAnswer}
 use Rattle.sls_core.specs.declared.run.RunAnswer.TheVariants as answers
 use Rattle.aurora_top.specs.Answers.{IsRunEnding}
@@ -89,14 +89,33 @@ tells_from commits before opened disk un t = record {
   ];
 }
 
+each_from : (run : RunSoFar) (acks : List AckMark) (commits : List WholeCommit) (before opened : DiskView) → IsUnwritten before opened → AreCommitsOf run opened.blocks opened.reading acks commits → AreCommitsOf run before.blocks before.reading acks commits
+each_from run acks commits before opened un are =
+    subst (λ (n : ℕ). AreCommitsOf run n before.reading acks commits) un.blocks (subst (λ (r : Option (List ℕ)). AreCommitsOf run opened.blocks r acks commits) un.reading are)
+
+-- where none had begun before the opening, none had after it
+none_since : (before opened disk : DiskView) → IsUnwritten before opened → (HasNoneBegun opened → HasNoneBegun disk) → HasNoneBegun before → HasNoneBegun disk
+none_since before opened disk un quiet none = quiet (none_after before opened none (un.commits none))
+
 committed_from : (run : RunSoFar) (acks : List AckMark) (before opened disk : DiskView) → IsUnwritten before opened → IsOnlyCommitted run acks opened disk → IsOnlyCommitted run acks before disk
 committed_from run acks before opened disk un o = record {
   commits = o.commits;
-  each = subst (λ (r : Option (List ℕ)). AreCommitsOf run r acks o.commits) un.reading o.each;
+  each = each_from run acks o.commits before opened un o.each;
   writes = o.writes ∙ ap (calls_more (calls_of o.commits)) un.writes;
   reads = o.reads ∙ ap (option_map (images_after o.commits)) un.reading;
   only = o.only;
   told = tells_from o.commits before opened disk un o.told;
+  none_under_way = none_since before opened disk un o.none_under_way;
+}
+
+told_from : (run : RunSoFar) (acks : List AckMark) (behind : List WholeCommit) (before opened disk : DiskView) → IsUnwritten before opened → TellsAcknowledged run acks behind opened disk → TellsAcknowledged run acks behind before disk
+told_from run acks behind before opened disk un t = record {
+  commits = t.commits;
+  each = each_from run acks t.commits before opened un t.each;
+  behind_is = subst (λ (n : ℕ). AreUnacknowledged run n (option_map (images_after t.commits) before.reading) behind) un.blocks
+      (subst (λ (r : Option (List ℕ)). AreUnacknowledged run opened.blocks (option_map (images_after t.commits) r) behind) un.reading t.behind_is);
+  told = tells_from (t.commits ++ behind) before opened disk un t.told;
+  one = elim t.one [ inl none ↦ inl none | inr quiet ↦ inr (none_since before opened disk un quiet) ];
 }
 
 -- ---- the numbers of an end
@@ -166,11 +185,13 @@ module _ (run : RunSoFar) (before opened disk : DiskView) (out out' : SinkView) 
   since_opening : IsSoloRun run at acks before disk out out' answer
   since_opening = record {
     safe = record {
+      now_is = ran.safe.now_is;
       legal = ran.safe.legal;
       stands = record {
         blocks = ran.safe.stands.blocks ∙ unwritten.blocks;
         writes = omega (arith, ran.safe.stands.writes, unwritten.writes);
         safe = safe;
+        told = (ran.safe.stands.told.0, told_from run acks ran.safe.stands.told.0 before opened disk unwritten ran.safe.stands.told.1);
         acked = record {
           epochs = ran.safe.stands.acked.epochs;
           opening = opening.not_before;
@@ -183,6 +204,7 @@ module _ (run : RunSoFar) (before opened disk : DiskView) (out out' : SinkView) 
     };
     current = λ no_fault r told. ran.current no_fault r (unwritten.reading ∙ told);
     none_given_up = λ no_fault. committed_from run acks before opened disk unwritten (ran.none_given_up no_fault);
+    told = told_from run acks [] before opened disk unwritten ran.told;
     order = ran.order;
     whole = ran.whole;
   }

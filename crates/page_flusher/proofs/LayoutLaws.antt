@@ -2,7 +2,7 @@
 use Rattle.std.proofs.Common.{◌≡◌, ◌≢◌, ◌⊎◌, inl, inr, ℕ, ◌+◌, ◌-◌, ◌*◌, ◌^◌, ◌<◌, ◌≤◌, List, [], ◌∷◌, ◌++◌, map, length, take, drop, Some, refl, sym, ap, ◌∙◌, subst, arith, length-append, length-take}
 use Rattle.std.specs.Prelude.{◌↔◌}
 use Rattle.std.specs.Int.{w64, to_le_bytes}
-use Rattle.std.specs.List.{AllByRecursion}
+use Rattle.std.specs.List.{AllByRecursion, AllPairs}
 use Rattle.std.proofs.Math.ListN.{replicate}
 use Rattle.std.proofs.lemmas.List.{length-map, length-replicate}
 use Rattle.std.proofs.lemmas.List.Elements.{All-from_recursion}
@@ -11,7 +11,7 @@ use Rattle.group_defs.specs.Group.{Group}
 use Rattle.group_defs.specs.Pages.{page_bytes, nonzero_pages}
 use Rattle.group_defs.specs.Valid.{lists_of}
 use Rattle.group_defs.specs.declared.frame.Frame.{Frame}
-use Rattle.ckpt_chain.specs.Chain.{block, laid, meta_block, first_of, Has, HasBlocks, InDisk}
+use Rattle.ckpt_chain.specs.Chain.{block, laid, meta_block, first_of, metas_for, Has, HasBlocks, InDisk}
 use Rattle.ckpt_chain.specs.Slot.{newest}
 use Rattle.ckpt_chain.specs.declared.slot.Slot.{Slot}
 use Rattle.ckpt_chain.specs.declared.slot.SlotBody.{SlotBody}
@@ -110,11 +110,11 @@ module _ (count : ℕ) (used : List ℕ) (epoch : ℕ) (f : Frame) (pages : List
       each_both (λ (b : Block). MayBeFree count used b.number) (λ (b : Block). IsWhole b.bytes) (IsDataBlock count) blocks (λ b free size. record { least = free.least; most = free.most; whole = size })
       (each_of_map (MayBeFree count used) (λ (b : Block). b.number) blocks all_free) (each_of_map IsWhole (λ (b : Block). b.bytes) blocks all_whole)
 
+  none_used : (b : ℕ) → Has b (numbers blocks) → Has b used → ⊥
+  none_used b has in_use = all_has (λ u. u ≢ b) b used (All-from_recursion (λ u. u ≢ b) used (all_has (MayBeFree count used) b (numbers blocks) (All-from_recursion (MayBeFree count used) (numbers blocks) all_free) has).unused) in_use refl
+
   pub laid_avoids : (kept : NewestCheckpoint) → Covers used kept → Avoids count kept blocks
-  laid_avoids kept covers = record {
-    placed = all_placed;
-    free = λ b has in_use. all_has (λ u. u ≢ b) b used (All-from_recursion (λ u. u ≢ b) used (all_has (MayBeFree count used) b (numbers blocks) (All-from_recursion (MayBeFree count used) (numbers blocks) all_free) has).unused) (covers b in_use) refl;
-  }
+  laid_avoids kept covers = record { placed = all_placed; free = λ b has in_use. none_used b has (covers b in_use) }
 
   all_rise : IsOrdered (λ m n. m < n) (l.places ++ l.metas)
   all_rise = ordered_of_pairs (λ m n. m < n) (l.places ++ l.metas) l.rising
@@ -208,12 +208,22 @@ module _ (count : ℕ) (used : List ℕ) (epoch : ℕ) (f : Frame) (pages : List
       let are : l.metas ++ l.places ≡ l.metas ++ block_numbers (placed pages l.places) = ap (λ (ns : List ℕ). l.metas ++ ns) (sym (blocks_placed pages l.places l.enough)) in
       (λ has. subst (Has b) are (has_swap l.places l.metas b (subst (Has b) l.numbers_are has)), λ has. subst (Has b) (sym l.numbers_are) (has_swap l.metas l.places b (subst (Has b) (sym are) has)))
 
+  -- no number stands twice
+  once : AllPairs (λ m n. m ≢ n) (numbers blocks)
+  once = subst (AllPairs (λ m n. m ≢ n)) (sym l.numbers_are) (λ i j d lt end same. absurd (omega (arith, l.rising i j d lt end, same)))
+
+  all_blocks : length blocks ≡ length l.places + length l.metas
+  all_blocks = sym (length-map blocks (λ (b : Block). b.number)) ∙ ap length l.numbers_are ∙ length-append l.places l.metas
+
+  -- the record of a group of this frame
+  record_length : (g : Group) → g.frame ≡ f → length (record_bytes 2 f (placed pages l.places)) ≡ length (record_bytes 2 g.frame (placed pages l.places))
+  record_length g same = ap (λ (x : Frame). length (record_bytes 2 x (placed pages l.places))) (sym same)
+
   -- no more than the group's pages, and its meta blocks where each page is a run of its own
   as_many : MetasSuffice → (g : Group) → g.frame ≡ f → ArePagesOf g pages → length blocks ≤ cost_of g
   as_many suffice g same are =
-      let all : length blocks ≡ length l.places + length l.metas = sym (length-map blocks (λ (b : Block). b.number)) ∙ ap length l.numbers_are ∙ length-append l.places l.metas in
       let own : blocks_for f (map written_page pages) ≡ cost_of g = ap (λ (x : Frame). blocks_for x (map written_page pages)) (sym same) ∙ ap (blocks_for g.frame) are.which in
-      omega (arith, all, own, l.enough, l.metas_enough, metas_within suffice f pages l.places l.enough, length-map pages written_page)
+      omega (arith, all_blocks, own, l.enough, l.metas_enough, metas_within suffice f pages l.places l.enough, length-map pages written_page)
 
   replaced : IsSpelledBy (record_bytes 2 f (placed pages l.places)) f (placed pages l.places) → WrittenIsHeld → KeptIsHeld → (g : Group) → g.frame ≡ f → IsCheckpointed g → ArePagesOf g pages → 16 ≤ count → count ≤ 2 ^ 20 → epoch < 2 ^ 64 → (kept : NewestCheckpoint) (target : Slot) (r : List ℕ)
       → IsBeforeCommit count used epoch target kept r → Replaces kept epoch g (placed pages l.places) l.metas target blocks body r
@@ -228,9 +238,17 @@ module _ (count : ℕ) (used : List ℕ) (epoch : ℕ) (f : Frame) (pages : List
   laid_plan spelled written_held held_kept suffice least most g same checkpointed are epoch64 = record {
     pages = placed pages l.places;
     metas = l.metas;
+    listed = which g same checkpointed are;
+    metas_are = l.metas_enough ∙ ap metas_for (record_length g same);
     uses = uses;
+    one_each = omega (arith, all_blocks, length_placed pages l.places l.enough);
+    once = once;
+    unused = none_used;
     size = as_many suffice g same are;
     placed = all_placed;
     format = ap (λ (b : SlotBody). b.format) l.body_is;
+    epoch_is = ap (λ (b : SlotBody). b.epoch) l.body_is;
+    first_is = ap (λ (b : SlotBody). b.first) l.body_is;
+    length_is = ap (λ (b : SlotBody). b.length) l.body_is ∙ record_length g same;
     replaces = λ kept target r before. replaced spelled written_held held_kept g same checkpointed are least most epoch64 kept target r before;
   }

@@ -1,11 +1,13 @@
 -- What a disk keeps while a commit goes on, and what the commit puts in its place.
-use Rattle.std.specs.Prelude.{◌≡◌, ◌⊎◌, ◌↔◌, ◌*◌, ◌≤◌, ℕ, List, ◌++◌, length}
-use Rattle.std.specs.List.{AllByRecursion}
+use Rattle.std.specs.Prelude.{◌≡◌, ◌≢◌, ◌⊎◌, ◌↔◌, ◌+◌, ◌*◌, ◌≤◌, ℕ, List, ◌++◌, length, map}
+use Rattle.std.specs.List.{AllByRecursion, AllPairs}
 use Rattle.group_defs.specs.Group.{Group}
-use Rattle.ckpt_chain.specs.Chain.{Has}
+use Rattle.group_defs.specs.Pages.{nonzero_pages}
+use Rattle.ckpt_chain.specs.Chain.{Has, first_of, metas_for}
 use Rattle.ckpt_chain.specs.declared.slot.Slot.{Slot}
 use Rattle.ckpt_chain.specs.declared.slot.SlotBody.{SlotBody}
-use Rattle.ckpt_records.specs.Holds.{HoldsAt, block_numbers}
+use Rattle.ckpt_records.specs.Holds.{HoldsAt, block_numbers, listed_page}
+use Rattle.ckpt_records.specs.Spelling.{record_bytes}
 use Rattle.ckpt_records.specs.declared.meta.PagePlace.{PagePlace}
 use Rattle.commit_gate.specs.Whole.{IsDataBlock, IsUnfinished, numbers, finished}
 use Rattle.commit_gate.specs.declared.whole.Block.{Block}
@@ -44,13 +46,22 @@ pub record Replaces (kept : NewestCheckpoint) (epoch : ℕ) (g : Group) (pages :
   pub during : (image : List ℕ) → IsUnfinished target blocks r image ⊎ (image ≡ finished target blocks body r) → HasNewestOr kept epoch g image
   pub after : HoldsAt (finished target blocks body r) epoch g pages metas target
 
--- The plan of a group's commit as this epoch: its pages and its meta blocks lie in the blocks written, which are no more than the
--- group's checkpoint takes, and its body is of format 2; on every disk of so many blocks whose kept checkpoint uses only blocks in use, the commit replaces it by the group's.
+-- The plan of a group's commit as this epoch: its pages that aren't all zero and the meta blocks of its record lie in just the blocks
+-- written, one each, none of them in use, and no more than the group's checkpoint takes; its body is of format 2, and names the
+-- record; on every disk of so many blocks whose kept checkpoint uses only blocks in use, the commit replaces it by the group's.
 pub record IsPlan (count : ℕ) (used : List ℕ) (epoch : ℕ) (g : Group) (blocks : List Block) (body : SlotBody) : Type 0 where
   pub pages : List PagePlace
   pub metas : List ℕ
+  pub listed : map listed_page pages ≡ nonzero_pages g
+  pub metas_are : length metas ≡ metas_for (length (record_bytes 2 g.frame pages))
   pub uses : (b : ℕ) → Has b (numbers blocks) ↔ Has b (metas ++ block_numbers pages)
+  pub one_each : length blocks ≡ length metas + length pages
+  pub once : AllPairs (λ m n. m ≢ n) (numbers blocks)
+  pub unused : (b : ℕ) → Has b (numbers blocks) → Has b used → ⊥
   pub size : length blocks ≤ cost_of g
   pub placed : AllByRecursion (IsDataBlock count) blocks
   pub format : body.format ≡ 2
+  pub epoch_is : body.epoch ≡ epoch
+  pub first_is : body.first ≡ first_of metas
+  pub length_is : body.length ≡ length (record_bytes 2 g.frame pages)
   pub replaces : (kept : NewestCheckpoint) (target : Slot) (r : List ℕ) → IsBeforeCommit count used epoch target kept r → Replaces kept epoch g pages metas target blocks body r

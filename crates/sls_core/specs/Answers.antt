@@ -1,5 +1,5 @@
 -- What a run answers, and what stands then.
-use Rattle.std.specs.Prelude.{◌≡◌, ◌<◌, ◌≤◌, ◌+◌, ℕ, ⊤, List, Option, Some, None}
+use Rattle.std.specs.Prelude.{◌≡◌, ◌<◌, ◌≤◌, ◌+◌, ℕ, ⊤, List, [], Option, Some, None}
 use Rattle.std.specs.List.{filter_map, sum_by}
 use Rattle.std.specs.Option.{ForSome}
 use Rattle.dev_traits.specs.Counts.{Rose}
@@ -8,14 +8,14 @@ use Rattle.dev_traits.specs.Outside.{SinkView}
 use Rattle.group_defs.specs.Group.{Group}
 use Rattle.run_defs.specs.Ends.{IsDone, IsStuck, IsSpent}
 use Rattle.run_defs.specs.Legal.{Legal}
-use Rattle.run_defs.specs.Progress.{IsGroupOf, group_of_epoch}
+use Rattle.run_defs.specs.Progress.{IsGroupOf, group_of_epoch, progress_after, progress_at}
 use Rattle.run_defs.specs.Solo.{IsSoloPrefix, IsSoloTrace}
 use Rattle.run_defs.specs.declared.run.AckMark.{AckMark}
 use Rattle.run_defs.specs.declared.run.Mark.{Mark}
 use Rattle.run_defs.specs.declared.run.Mark.TheVariants.{Fetch}
 use Rattle.ckpt_records.specs.Newest.{NewestCheckpoint, HasNewest, epoch_after, used_by}
 use Rattle.ckpt_records.specs.Cost.{calls_for, cost_of, free_blocks}
-use Rattle.sls_core.specs.Committed.{IsOnlyCommitted}
+use Rattle.sls_core.specs.Committed.{IsOnlyCommitted, TellsAcknowledged, WholeCommit}
 use Rattle.sls_core.specs.Safe.{RunSoFar, Safe, AreAcks, HoldsLastAcknowledged, Released, IsUnwritten, IsWhole, last_acked, last_group}
 use Rattle.sls_core.specs.declared.run.RunAnswer.{RunAnswer}
 use Rattle.sls_core.specs.declared.run.RunAnswer.TheVariants.{Done, Stuck, Spent, DiskFault, SinkFault, DiskFull, NoMemory}
@@ -68,14 +68,17 @@ pub record IsSafeSoFar (run : RunSoFar) (opened_at : ℕ) (acks : List AckMark) 
   pub writes : disk'.writes ≤ disk.writes + writes_allowed run
   -- the disk that comes back, where the disk tells its bytes
   pub safe : ForSome disk.reading (λ r. Safe run opened_at acks disk disk')
+  -- the commits, where the disk tells them: those acknowledged, and at most one more
+  pub told : (behind : List WholeCommit) × TellsAcknowledged run acks behind disk disk'
   pub acked : AreAcks run opened_at acks disk disk'
   pub released : Released run out out'
   -- nothing was written before the first fetch
   pub unfetched : run.now.fetched ≡ run.origin_epoch → IsUnwritten disk disk'
 
--- A run, on one thread or on several: its trace is legal, what it left is safe, and why it ended.
+-- A run, on one thread or on several: its trace is legal and says what stands, what it left is safe, and why it ended.
 pub record IsSafeRun (run : RunSoFar) (opened_at : ℕ) (acks : List AckMark) (disk disk' : DiskView)
     (out out' : SinkView) (answer : RunAnswer) : Type 0 where
+  pub now_is : run.now ≡ progress_after run.limits.quantum (progress_at run.origin_epoch run.start) run.trace
   pub legal : Legal run.start run.origin_epoch run.limits run.trace
   pub stands : IsSafeSoFar run opened_at acks disk disk' out out'
   pub ends : EndsFor run disk disk' out out' answer
@@ -96,5 +99,7 @@ pub record IsSoloRun (run : RunSoFar) (opened_at : ℕ) (acks : List AckMark) (d
       → ForSome disk.reading (λ r. (image : List ℕ) → LeftNow disk' image → HoldsLastAcknowledged run image)
   -- Nor was one begun and given up: the acknowledged commits are all that was written, on every disk, told or not.
   pub none_given_up : (answer ≡ DiskFault → ⊥) → IsOnlyCommitted run acks disk disk'
+  -- After any answer no commit has ended but those acknowledged.
+  pub told : TellsAcknowledged run acks [] disk disk'
   pub order : IsSoloPrefix run.start run.origin_epoch run.limits run.trace
   pub whole : EndsByItself answer → IsSoloTrace run.start run.origin_epoch run.limits run.trace

@@ -24,10 +24,10 @@ use Rattle.sls_core.specs.Answers.{IsSoloRun}
 use Rattle.sls_core.specs.Safe.{RunSoFar, run_of}
 use Rattle.sls_core.specs.declared.run.RunAnswer.TheVariants.{NoMemory, SinkFault}
 use Rattle.solo_engine.specs.Interval.{IsNewestAtStart, IsStart, ReleasesPart, ReleasesRest, rest_of}
-use Rattle.solo_engine.proofs.Intervals.{HasRun, IsQuiet, IsRunAtRest, RunHere, answered}
+use Rattle.solo_engine.proofs.Intervals.{HasRun, IsQuiet, IsRunAtRest, RunHere, answered_quiet}
 use Rattle.solo_engine.proofs.ReleasedInTime.{covered_first, in_time_at_start}
 use Rattle.solo_engine.proofs.SafeSoFar.{IsNewestOfRun, Reached, kept_holds, kept_last, reached_more, released}
-use Rattle.solo_engine.proofs.WriteLaws.{none_committed}
+use Rattle.solo_engine.proofs.WriteLaws.{none_committed, tells_alone}
 
 -- What is known of a disk and of an output when a run begins.
 pub record IsBegun (limits : Limits) (start : Group) (origin : ℕ) (disk : DiskView) (out : SinkView) : Type 0 where
@@ -105,6 +105,7 @@ module _ (limits : Limits) (start : Group) (origin : ℕ) (disk : DiskView) (out
       acked = record { epochs = refl; opening = omega arith; moments = omega arith };
       released = released (run_of limits start origin []) out out' (out.count + m) start.frame.out.mark (reached_first out' m le taken) (ap (option_map (λ (x : Group). x.frame.out.mark)) (b.starts.epochs.first [])) (omega (arith, le, rest_size))
           (in_time_at_start limits start origin (out.count + m));
+      told = ([], tells_alone (run_of limits start origin []) [] disk disk (none_committed (run_of limits start origin []) disk b.only));
       unfetched = λ none. record { blocks = refl; reading = refl; writes = refl; later = omega arith; left = λ t image le left. left; commits = λ none. inl refl };
     };
     current = λ r told image left. kept_last (run_of limits start origin []) [] b.kept image kept_is (keeps_now r told image left);
@@ -115,11 +116,11 @@ module _ (limits : Limits) (start : Group) (origin : ℕ) (disk : DiskView) (out
   pub unreleased_first : (out' : SinkView) → ReleasesPart start.frame.out out out' → HasRun (first_here limits start origin disk out out') SinkFault
   unreleased_first out' r =
       let q = quiet_first out' r.part.0 (omega (arith, r.part.1)) r.part.2 in
-      answered (first_here limits start origin disk out out') b.starts SinkFault b.starts.rests.begin.so_far q.safe (λ other. q) r.rose (λ e. absurd e)
+      answered_quiet (first_here limits start origin disk out out') b.starts SinkFault refl b.starts.rests.begin.so_far q r.rose (λ e. absurd e)
 
   -- want of memory at once
   pub unbegun : HasRun (first_here limits start origin disk out out) NoMemory
-  unbegun = let q = quiet_first out 0 (omega arith) (takes_none out) in answered (first_here limits start origin disk out out) b.starts NoMemory b.starts.rests.begin.so_far q.safe (λ other. q) tt (λ e. absurd e)
+  unbegun = let q = quiet_first out 0 (omega arith) (takes_none out) in answered_quiet (first_here limits start origin disk out out) b.starts NoMemory refl b.starts.rests.begin.so_far q tt (λ e. absurd e)
 
 -- it is at rest once the first release is done
 pub rests_first : (limits : Limits) (start : Group) (k : KeptBlocks) (disk : DiskView) (out : SinkView) (b : IsBegun limits start k.epoch disk out) → Describes k b.kept → ForSome disk.reading (λ r. DescribesGates k r)

@@ -28,17 +28,17 @@ use Rattle.page_flusher.specs.CommitPlan.{IsPlan}
 use Rattle.page_flusher.specs.KeptBlocks.{Describes, DescribesGates}
 use Rattle.page_flusher.specs.declared.kept.KeptBlocks.{KeptBlocks}
 use Rattle.sls_core.specs.Answers.{EndsByItself, EndsFor, IsSafeSoFar, IsSoloRun, writes_allowed}
-use Rattle.sls_core.specs.Committed.{IsOnlyCommitted, WholeCommit, images_after}
-use Rattle.sls_core.specs.Safe.{HoldsLastAcknowledged, IsReleasedInTime, IsWhole, Released, RunSoFar, last_acked, run_of}
+use Rattle.sls_core.specs.Committed.{IsOnlyCommitted, TellsAcknowledged, WholeCommit, images_after}
+use Rattle.sls_core.specs.Safe.{AreAcks, HoldsLastAcknowledged, IsReleasedInTime, IsWhole, Released, RunSoFar, Safe, last_acked, run_of}
 use Rattle.sls_core.specs.declared.run.RunAnswer.{RunAnswer}
 use Rattle.sls_core.specs.declared.run.RunAnswer.TheVariants.{Done, Stuck, Spent, DiskFault, SinkFault, DiskFull, NoMemory}
 use Rattle.solo_engine.specs.Interval.{EndsIn, HasProgress, IsCommitted, IsFetched, IsNoneReady, IsOfTurn, IsPlanned, IsStart, IsUncommitted, IsUnplanned, LeavesNewestOrNext, ReleasesPart, ReleasesRest, StopsTurning, rest_of}
 use Rattle.solo_engine.specs.declared.interval.PlannedCommit.{PlannedCommit}
 use Rattle.solo_engine.proofs.Committing.{before_commit}
 use Rattle.solo_engine.proofs.ReleasedInTime.{Covered, covered_more, in_time_fetched, in_time_on}
-use Rattle.solo_engine.proofs.SafeSoFar.{IsCommitting, IsNewestOfRun, Reached, acks_below, acks_later, acks_longer, acks_more, kept_acked, kept_last, kept_longer, longer, longer_twice, reached_longer, reached_more, released, run_longer, safe_acked, safe_during, safe_longer}
+use Rattle.solo_engine.proofs.SafeSoFar.{IsCommitting, IsNewestOfRun, IsNow, Reached, acks_below, acks_later, acks_longer, acks_more, kept_acked, kept_last, kept_longer, longer, longer_twice, now_longer, reached_longer, reached_more, released, run_longer, safe_acked, safe_during, safe_longer}
 use Rattle.solo_engine.proofs.Turning.{KeepsEpochs, at_group, turns_keep, turns_unacked}
-use Rattle.solo_engine.proofs.WriteLaws.{allowed_fetched, allowed_longer, committed_calls, committed_longer, committed_more}
+use Rattle.solo_engine.proofs.WriteLaws.{allowed_fetched, allowed_longer, committed_calls, committed_longer, committed_more, tells_alone, tells_failed}
 
 -- A run with its acknowledgements, and its disk and output as they were at its start and are now.
 pub record RunHere : Type 1 where
@@ -104,15 +104,21 @@ pub record IsRunAtRest (x : RunHere) (g : Group) (k : KeptBlocks) (made : ℕ) :
 rose_later : (a b c : ℕ) → a ≤ b → Rose b c → Rose a c
 rose_later a b c le rose = omega (arith, le, rose)
 
-pub answered : (x : RunHere) → StartOf x → (answer : RunAnswer) → IsSoloSoFar x.run.start x.run.origin_epoch x.run.limits x.run.trace → IsSafeHere x → ((answer ≡ DiskFault → ⊥) → IsQuiet x)
+pub answered : (x : RunHere) → StartOf x → (answer : RunAnswer) → IsNow x.run → IsSoloSoFar x.run.start x.run.origin_epoch x.run.limits x.run.trace → IsSafeHere x → TellsAcknowledged x.run x.acks [] x.disk0 x.disk → ((answer ≡ DiskFault → ⊥) → IsQuiet x)
     → EndsFor x.run x.disk0 x.disk x.out0 x.out answer → (EndsByItself answer → IsSoloTrace x.run.start x.run.origin_epoch x.run.limits x.run.trace) → HasRun x answer
-answered x s answer so_far safe quiet ends whole = record {
-  safe = record { legal = s.legal x.run.trace so_far; stands = safe; ends = ends };
+answered x s answer now so_far safe told quiet ends whole = record {
+  safe = record { now_is = now; legal = s.legal x.run.trace so_far; stands = safe; ends = ends };
   current = λ other. (quiet other).current;
   none_given_up = λ other. (quiet other).none_given_up;
+  told = told;
   order = s.prefix x.run.trace so_far;
   whole = whole;
 }
+
+-- ... between two commits
+pub answered_quiet : (x : RunHere) → StartOf x → (answer : RunAnswer) → IsNow x.run → IsSoloSoFar x.run.start x.run.origin_epoch x.run.limits x.run.trace → IsQuiet x
+    → EndsFor x.run x.disk0 x.disk x.out0 x.out answer → (EndsByItself answer → IsSoloTrace x.run.start x.run.origin_epoch x.run.limits x.run.trace) → HasRun x answer
+answered_quiet x s answer now so_far q ends whole = answered x s answer now so_far q.safe (tells_alone x.run x.acks x.disk0 x.disk q.none_given_up) (λ other. q) ends whole
 
 -- ---- the trace grows, and neither the disk nor the output changes
 
@@ -124,6 +130,7 @@ module _ (x : RunHere) (s : StartOf x) (more : List Mark) (unacked : filter_map 
   quiet_longer : IsQuiet x → (g : Group) → IsGroupOf x.run.now (last_acked x.run) g → Reached x.run x.out0 x.out g.frame.out.mark → IsReleasedInTime (longer x.run more) g.frame.out.mark → IsQuiet (here_longer x more)
   quiet_longer q g group_is reached prompt = record {
     safe = record {
+      told = ([], tells_alone (longer x.run more) x.acks x.disk0 x.disk only);
       blocks = q.safe.blocks;
       writes = omega (arith, q.safe.writes, allowed_longer x.run s.epochs more);
       safe = λ r told. safe_longer x.run s.epochs more later x.disk0.moment x.acks x.disk0 x.disk (q.safe.safe r told);
@@ -133,9 +140,12 @@ module _ (x : RunHere) (s : StartOf x) (more : List Mark) (unacked : filter_map 
       unfetched = λ none. q.safe.unfetched (omega (arith, none, begins, later));
     };
     current = λ r told image left. last_on (q.current r told image left);
-    none_given_up = committed_longer x.run s.epochs more x.acks x.disk0 x.disk q.none_given_up;
+    none_given_up = only;
   }
     where
+      only : IsOnlyCommitted (longer x.run more) x.acks x.disk0 x.disk
+      only = committed_longer x.run s.epochs more x.acks x.disk0 x.disk q.none_given_up
+
       last_on : {image : List ℕ} → HoldsLastAcknowledged x.run image → HoldsLastAcknowledged (longer x.run more) image
       last_on {image} (inl (h, is, held)) = inl (h, subst (λ (e : ℕ). IsGroupOf (longer x.run more).now e h) (sym same) (s.epochs.later x.run.now more (last_acked x.run) h is), subst (λ (e : ℕ). Holds image e h) (sym same) held)
       last_on (inr (zero, none)) = inr (same ∙ zero, none)
@@ -143,6 +153,9 @@ module _ (x : RunHere) (s : StartOf x) (more : List Mark) (unacked : filter_map 
 module _ (x : RunHere) (s : StartOf x) (g : Group) (k : KeptBlocks) (made : ℕ) (rest : IsRunAtRest x g k made) where
   last_is_kept : last_acked x.run ≡ k.epoch
   last_is_kept = rest.stands.rests.acked ∙ rest.last_is
+
+  now_here : IsNow x.run
+  now_here = sym rest.stands.stands
 
   run_now : run_of x.run.limits x.run.start x.run.origin_epoch x.run.trace ≡ x.run
   run_now = ap (λ (r : Progress). record x.run { now = r }) rest.stands.stands
@@ -177,7 +190,8 @@ module _ (x : RunHere) (s : StartOf x) (g : Group) (k : KeptBlocks) (made : ℕ)
   pub stopped : (trace' : List Mark) → StopsTurning x.run.limits x.run.trace trace' g made → HasRun (logged x trace') NoMemory
   stopped trace' stop =
       let q = quiet_turned stop.more stop.turns in
-      subst (λ (r : RunSoFar). HasRun (record x { run = r }) NoMemory) (sym (run_more stop.more trace' stop.trace_is)) (answered (here_longer x stop.more) s NoMemory (subst (IsSoloSoFar x.run.start x.run.origin_epoch x.run.limits) stop.trace_is (stop.so_far x.run.start x.run.origin_epoch x.run.now rest.stands rest.has)) q.safe (λ other. q) tt (λ e. absurd e))
+      subst (λ (r : RunSoFar). HasRun (record x { run = r }) NoMemory) (sym (run_more stop.more trace' stop.trace_is)) (answered_quiet (here_longer x stop.more) s NoMemory (now_longer x.run stop.more now_here)
+      (subst (IsSoloSoFar x.run.start x.run.origin_epoch x.run.limits) stop.trace_is (stop.so_far x.run.start x.run.origin_epoch x.run.now rest.stands rest.has)) q tt (λ e. absurd e))
 
   -- ---- a barrier that is fetched
 
@@ -196,6 +210,9 @@ module _ (x : RunHere) (s : StartOf x) (g : Group) (k : KeptBlocks) (made : ℕ)
 
     abbrev both : List Mark
     both = more ++ commit_marks
+
+    now2 : IsNow x2.run
+    now2 = now_longer x1.run commit_marks (now_longer x.run more now_here)
 
     same2 : longer x.run both ≡ x2.run
     same2 = sym (longer_twice x.run more commit_marks)
@@ -257,7 +274,7 @@ module _ (x : RunHere) (s : StartOf x) (g : Group) (k : KeptBlocks) (made : ℕ)
     unplanned answer count same u = subst (λ (r : RunSoFar). HasRun (record x { run = r }) answer) (sym run_fetched) (by_answer answer u)
       where
         by_answer : (answer : RunAnswer) → IsUnplanned count g' k answer → HasRun x2 answer
-        by_answer (DiskFull need free) u = answered x2 s (DiskFull need free) so_far quiet_fetched.safe (λ other. quiet_fetched) (record {
+        by_answer (DiskFull need free) u = answered_quiet x2 s (DiskFull need free) now2 so_far quiet_fetched (record {
           unacked = omega (arith, last1);
           group = g';
           group_is = group_at;
@@ -270,7 +287,7 @@ module _ (x : RunHere) (s : StartOf x) (g : Group) (k : KeptBlocks) (made : ℕ)
           };
           too_few = u.too_few;
         }) (λ e. absurd e)
-        by_answer NoMemory u = answered x2 s NoMemory so_far quiet_fetched.safe (λ other. quiet_fetched) tt (λ e. absurd e)
+        by_answer NoMemory u = answered_quiet x2 s NoMemory now2 so_far quiet_fetched tt (λ e. absurd e)
         by_answer Done u = absurd u
         by_answer Stuck u = absurd u
         by_answer Spent u = absurd u
@@ -283,23 +300,33 @@ module _ (x : RunHere) (s : StartOf x) (g : Group) (k : KeptBlocks) (made : ℕ)
     committing_kept : IsCommitting x2.run (epoch_after rest.kept) g'
     committing_kept = subst (λ (e : ℕ). IsCommitting x2.run e g') (sym rest.knows.epoch) committing
 
-    stands_written : (disk' : DiskView) → LeavesNewestOrNext k g' x.disk disk' → x.disk.moment ≤ disk'.moment → disk'.blocks ≡ x.disk.blocks → disk'.writes ≤ x.disk.writes + calls_for g' → IsSafeHere (record x2 { disk = disk' })
-    stands_written disk' leaves later blocks writes = record {
-      blocks = blocks ∙ rest.safe.blocks;
-      writes = omega (arith, writes, rest.safe.writes, allowed);
-      safe = λ r told.
-          let now = told_now r told in
-          safe_during x2.run x.acks x.disk0 x.disk disk' x.disk0.moment (quiet_fetched.safe.safe r told) quiet_fetched.safe.acked rest.kept kept_on g' committing_kept (leaves now.0 now.1 rest.kept rest.knows (rest.keeps now.0 now.1));
-      acked = acks_later x2.run x.disk0.moment x.acks x.disk0 x.disk disk' later quiet_fetched.safe.acked;
-      released = quiet_fetched.safe.released;
-      unfetched = λ none. absurd (omega (arith, none, rest.begins));
-    }
+    safe_written : (disk' : DiskView) → LeavesNewestOrNext k g' x.disk disk' → ForSome x.disk0.reading (λ r. Safe x2.run x.disk0.moment x.acks x.disk0 disk')
+    safe_written disk' leaves r told =
+        let now = told_now r told in
+        safe_during x2.run x.acks x.disk0 x.disk disk' x.disk0.moment (quiet_fetched.safe.safe r told) quiet_fetched.safe.acked rest.kept kept_on g' committing_kept (leaves now.0 now.1 rest.kept rest.knows (rest.keeps now.0 now.1))
+
+    acked_written : (disk' : DiskView) → x.disk.moment ≤ disk'.moment → AreAcks x2.run x.disk0.moment x.acks x.disk0 disk'
+    acked_written disk' later = acks_later x2.run x.disk0.moment x.acks x.disk0 x.disk disk' later quiet_fetched.safe.acked
 
     -- the commit failed
     pub uncommitted : (disk' : DiskView) → IsUncommitted k g' x.disk disk' → HasRun (record (logged x trace') { disk = disk' }) DiskFault
     uncommitted disk' u =
         subst (λ (r : RunSoFar). HasRun (record x { run = r; disk = disk' }) DiskFault) (sym run_fetched)
-        (answered (record x2 { disk = disk' }) s DiskFault so_far (stands_written disk' u.leaves u.later u.blocks u.writes) (λ other. absurd (other refl)) (rose_later x.disk0.faults x.disk.faults disk'.faults rest.disk_faults u.rose) (λ e. absurd e))
+        (answered (record x2 { disk = disk' }) s DiskFault now2 so_far stands tells (λ other. absurd (other refl)) (rose_later x.disk0.faults x.disk.faults disk'.faults rest.disk_faults u.rose) (λ e. absurd e))
+      where
+        tells : TellsAcknowledged x2.run x.acks [] x.disk0 disk'
+        tells = tells_failed x2.run x.acks x.disk0 x.disk disk' quiet_fetched.none_given_up u.none_ended
+
+        stands : IsSafeHere (record x2 { disk = disk' })
+        stands = record {
+          blocks = u.blocks ∙ rest.safe.blocks;
+          writes = omega (arith, u.writes, rest.safe.writes, allowed);
+          safe = safe_written disk' u.leaves;
+          told = ([], tells);
+          acked = acked_written disk' u.later;
+          released = quiet_fetched.safe.released;
+          unfetched = λ none. absurd (omega (arith, none, rest.begins));
+        }
 
     -- ---- it was acknowledged
 
@@ -370,20 +397,46 @@ module _ (x : RunHere) (s : StartOf x) (g : Group) (k : KeptBlocks) (made : ℕ)
       unfolding run3 made_commit after
       committed =
           committed_more run3 acked made_commit x.acks x.disk0 x.disk disk' (committed_longer x2.run s.epochs ack_marks x.acks x.disk0 x.disk quiet_fetched.none_given_up)
-          (record { group = g'; group_is = group_at; few = plan.size; held = λ r told. record { pages = plan.pages; metas = plan.metas; slot = k.target; at = holds_after r told } }) done.writes done.reads done.only done.commits
+          (record {
+            group = g';
+            group_is = group_at;
+            pages = plan.pages;
+            metas = plan.metas;
+            listed = plan.listed;
+            metas_are = plan.metas_are;
+            uses = plan.uses;
+            one_each = plan.one_each;
+            once = plan.once;
+            placed = subst (λ (n : ℕ). AllByRecursion (IsDataBlock n) ready.plan.blocks) (same ∙ rest.safe.blocks) plan.placed;
+            few = plan.size;
+            format = plan.format;
+            epoch_is = plan.epoch_is;
+            first_is = plan.first_is;
+            length_is = plan.length_is;
+            beside = λ r told. record {
+              kept = rest.kept;
+              keeps = rest.keeps r told;
+              next = rest.knows.epoch;
+              into = rest.knows.target;
+              unused = λ b has in_use. plan.unused b has ((rest.knows.used b).1 in_use);
+            };
+            closed = done.closed;
+            held = holds_after;
+          }) done.writes done.reads done.only done.commits
 
       quiet_acked : (out' : SinkView) → Released run3 x.out0 out' → IsQuiet (x3 out')
       unfolding run3
       quiet_acked out' r =
-          let w = stands_written disk' done.leaves done.later done.blocks (committed_calls g' done.closes ready.plan.blocks x.disk.writes disk'.writes plan.size done.writes) in
+          let calls = committed_calls g' done.closes ready.plan.blocks x.disk.writes disk'.writes plan.size done.writes in
           record {
             safe = record {
-              blocks = w.blocks;
-              writes = omega (arith, w.writes, allowed_longer x2.run s.epochs ack_marks);
-              safe = λ b told. safe_acked x2.run s.epochs ack_marks (omega arith) (k.epoch + 1) x.disk0.moment x.acks x.disk0 disk' g' (w.safe b told) committing (held_now b told);
-              acked = acks_more x2.run (k.epoch + 1) x.disk0.moment x.acks x.disk0 disk' w.acked;
+              blocks = done.blocks ∙ rest.safe.blocks;
+              writes = omega (arith, calls, rest.safe.writes, allowed, allowed_longer x2.run s.epochs ack_marks);
+              safe = λ b told. safe_acked x2.run s.epochs ack_marks (omega arith) (k.epoch + 1) x.disk0.moment x.acks x.disk0 disk' g' (safe_written disk' done.leaves b told) committing (held_now b told);
+              told = ([], tells_alone run3 (x.acks ++ acked ∷ []) x.disk0 disk' committed);
+              acked = acks_more x2.run (k.epoch + 1) x.disk0.moment x.acks x.disk0 disk' (acked_written disk' done.later);
               released = r;
-              unfetched = λ none. w.unfetched none;
+              unfetched = λ none. absurd (omega (arith, none, rest.begins));
             };
             current = λ r told image left. inl (g', group_at, held_now r told image left);
             none_given_up = committed;
@@ -455,7 +508,7 @@ module _ (x : RunHere) (s : StartOf x) (g : Group) (k : KeptBlocks) (made : ℕ)
       unreleased out' r =
           let part : TakesPart g'.frame.out.bytes x.out out' = subst (λ (l : List ℕ). TakesPart l x.out out') rest_is r.part in
           let q = quiet_acked out' (released_on out' part.0 (omega (arith, part.1)) part.2) in
-          as_logged (λ r a. HasRun (record x { run = r; acks = a; disk = disk'; out = out' }) SinkFault) (answered (x3 out') s SinkFault stands'.so_far q.safe (λ other. q) (rose_later x.out0.faults x.out.faults out'.faults rest.out_faults r.rose) (λ e. absurd e))
+          as_logged (λ r a. HasRun (record x { run = r; acks = a; disk = disk'; out = out' }) SinkFault) (answered_quiet (x3 out') s SinkFault (sym stands'.stands) stands'.so_far q (rose_later x.out0.faults x.out.faults out'.faults rest.out_faults r.rose) (λ e. absurd e))
 
       rests_then : (out' : SinkView) → 16 ≤ x.disk.blocks → ReleasesRest g'.frame.out x.out out' → IsRunAtRest (x3 out') g' ready.next made'
       unfolding kept' run3 after
@@ -505,7 +558,7 @@ module _ (x : RunHere) (s : StartOf x) (g : Group) (k : KeptBlocks) (made : ℕ)
   -- ---- the end
 
   pub ended : (answer : RunAnswer) → IsNoneReady g ⊎ (x.run.limits.turns ≤ made) → EndsIn g answer → HasRun x answer
-  ended answer over ends = answered x s answer rest.stands.so_far rest.safe (λ other. quiet) (by_answer answer ends) (by_itself answer ends)
+  ended answer over ends = answered_quiet x s answer now_here rest.stands.so_far quiet (by_answer answer ends) (by_itself answer ends)
     where
       settled : IsSettled x.run.now
       settled = record { rests = rest.stands.rests; no_turn = rest.has.since_is }

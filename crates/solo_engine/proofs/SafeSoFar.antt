@@ -40,6 +40,15 @@ longer_twice run a b =
     ap (λ (t : List Mark). record run { trace = t; now = progress_after run.limits.quantum (progress_after run.limits.quantum run.now a) b }) (append_assoc run.trace a b)
     ∙ ap (λ (r : Progress). record run { trace = run.trace ++ (a ++ b); now = r }) (sym (fold-append (after_mark run.limits.quantum) run.now a b))
 
+-- what stands is what the trace says
+abbrev pub IsNow : RunSoFar → Type 0
+IsNow run = run.now ≡ progress_after run.limits.quantum (progress_at run.origin_epoch run.start) run.trace
+
+pub now_longer : (run : RunSoFar) (more : List Mark) → IsNow run → IsNow (longer run more)
+now_longer run more is =
+    ap (λ (r : Progress). progress_after run.limits.quantum r more) is
+    ∙ sym (fold-append (after_mark run.limits.quantum) (progress_at run.origin_epoch run.start) run.trace more)
+
 -- what is kept is nothing, or of the run's last acknowledged epoch
 pub record IsLastBarrier (run : RunSoFar) (acks : List AckMark) (epoch : ℕ) (g : Group) : Type 0 where
   pub group_is : IsGroupOf run.now epoch g

@@ -14,12 +14,12 @@ use Rattle.run_defs.specs.declared.run.Mark.{Mark}
 use Rattle.run_defs.specs.declared.run.Mark.TheVariants.{Barrier, Fetch}
 use Rattle.run_laws.specs.EpochGroups.{EpochsHaveGroups}
 use Rattle.ckpt_records.specs.Cost.{calls_for, cost_of}
-use Rattle.commit_gate.proofs.Phases.{calls_then}
-use Rattle.commit_gate.specs.Whole.{AddsCommit, Reads, UpTo, calls_more, closing, write_calls}
+use Rattle.commit_gate.specs.CallLaws.{calls_then}
+use Rattle.commit_gate.specs.Whole.{AddsCommit, AddsNone, Reads, UpTo, calls_more, closing, write_calls}
 use Rattle.commit_gate.specs.declared.whole.Block.{Block}
 use Rattle.sls_core.specs.Answers.{calls_of_epoch, fetched_epoch, writes_allowed}
-use Rattle.sls_core.specs.Committed.{AreCommitsOf, IsCommitOf, IsOnlyCommitted, TellsFirst, TellsMore, WholeCommit, calls_of, image_after, images_after, told_commit}
-use Rattle.sls_core.specs.Safe.{RunSoFar}
+use Rattle.sls_core.specs.Committed.{AreCommitsOf, IsCommitOf, IsOnlyCommitted, TellsAcknowledged, TellsFirst, TellsMore, WholeCommit, calls_of, image_after, images_after, told_commit}
+use Rattle.sls_core.specs.Safe.{HasNoneBegun, RunSoFar}
 use Rattle.solo_engine.proofs.SafeSoFar.{longer}
 
 -- ---- the calls of one commit
@@ -76,17 +76,45 @@ module _ (run : RunSoFar) (epochs : EpochsHaveGroups run.start run.origin_epoch 
 
   -- ---- what whole commits make
 
-  commit_longer : (more : List Mark) (reading : Option (List ℕ)) (epoch : ℕ) (c : WholeCommit) → IsCommitOf run reading epoch c → IsCommitOf (longer run more) reading epoch c
-  commit_longer more reading epoch c is = record { group = is.group; group_is = epochs.later run.now more epoch is.group is.group_is; few = is.few; held = is.held }
+  commit_longer : (more : List Mark) (count : ℕ) (reading : Option (List ℕ)) (epoch : ℕ) (c : WholeCommit) → IsCommitOf run count reading epoch c → IsCommitOf (longer run more) count reading epoch c
+  commit_longer more count reading epoch c is = record {
+    group = is.group;
+    group_is = epochs.later run.now more epoch is.group is.group_is;
+    pages = is.pages;
+    metas = is.metas;
+    listed = is.listed;
+    metas_are = is.metas_are;
+    uses = is.uses;
+    one_each = is.one_each;
+    once = is.once;
+    placed = is.placed;
+    few = is.few;
+    format = is.format;
+    epoch_is = is.epoch_is;
+    first_is = is.first_is;
+    length_is = is.length_is;
+    beside = is.beside;
+    closed = is.closed;
+    held = is.held;
+  }
 
-  commits_longer : (more : List Mark) (reading : Option (List ℕ)) (acks : List AckMark) (commits : List WholeCommit) → AreCommitsOf run reading acks commits → AreCommitsOf (longer run more) reading acks commits
-  commits_longer more reading [] [] are = tt
-  commits_longer more reading [] (c ∷ commits) are = absurd are
-  commits_longer more reading (a ∷ acks) [] are = absurd are
-  commits_longer more reading (a ∷ acks) (c ∷ commits) are = (commit_longer more reading a.epoch c are.0, commits_longer more (option_map (λ r. image_after r c) reading) acks commits are.1)
+  commits_longer : (more : List Mark) (count : ℕ) (reading : Option (List ℕ)) (acks : List AckMark) (commits : List WholeCommit) → AreCommitsOf run count reading acks commits → AreCommitsOf (longer run more) count reading acks commits
+  commits_longer more count reading [] [] are = tt
+  commits_longer more count reading [] (c ∷ commits) are = absurd are
+  commits_longer more count reading (a ∷ acks) [] are = absurd are
+  commits_longer more count reading (a ∷ acks) (c ∷ commits) are =
+      (commit_longer more count reading a.epoch c are.0, commits_longer more count (option_map (λ r. image_after r c) reading) acks commits are.1)
 
   pub committed_longer : (more : List Mark) (acks : List AckMark) (before after : DiskView) → IsOnlyCommitted run acks before after → IsOnlyCommitted (longer run more) acks before after
-  committed_longer more acks before after o = record { commits = o.commits; each = commits_longer more before.reading acks o.commits o.each; writes = o.writes; reads = o.reads; only = o.only; told = o.told }
+  committed_longer more acks before after o = record {
+    commits = o.commits;
+    each = commits_longer more before.blocks before.reading acks o.commits o.each;
+    writes = o.writes;
+    reads = o.reads;
+    only = o.only;
+    told = o.told;
+    none_under_way = o.none_under_way;
+  }
 
 map_none : (o : Option (List ℕ)) → o ≡ option_map (images_after []) o
 map_none None = refl
@@ -104,27 +132,78 @@ none_committed run disk only = record {
   writes = refl;
   reads = map_none disk.reading;
   only = only;
-  told = record { told = λ now. ([], [], refl, sym (append-nil disk.commits.ended), inr (now, refl)); untold = λ none. refl };
+  told = record { told = λ now. ([], [], refl, sym (append-nil disk.commits.ended), inr refl); untold = λ none. refl };
+  none_under_way = λ none. none;
+}
+
+-- ---- the commits that a disk tells
+
+told_and_untold : (v : DiskView) → v.commits.now ≡ None → v.commits.now ≡ Some nothing_written → ⊥
+told_and_untold v none now = absurd (let both : Some nothing_written ≡ None = sym now ∙ none in cc)
+
+-- those acknowledged, and no other
+pub tells_alone : (run : RunSoFar) (acks : List AckMark) (before after : DiskView) → IsOnlyCommitted run acks before after → TellsAcknowledged run acks [] before after
+tells_alone run acks before after o = record {
+  commits = o.commits;
+  each = o.each;
+  behind_is = tt;
+  told = subst (λ (l : List WholeCommit). TellsMore l before after) (sym (append-nil o.commits)) o.told;
+  one = inl refl;
+}
+
+-- a commit that failed ended none
+tells_none : (commits : List WholeCommit) (before mid after : DiskView) → TellsMore commits before mid → (HasNoneBegun before → HasNoneBegun mid) → AddsNone mid after → TellsMore commits before after
+tells_none commits before mid after t quiet none_ended = record {
+  told = λ now. by_now (t.told now) (quiet (inr now));
+  untold = λ none. none_ended.untold (ap (λ x. x.now) (t.untold none) ∙ none) ∙ t.untold none;
+}
+  where
+    by_now : TellsFirst commits before mid → HasNoneBegun mid → TellsFirst commits before after
+    by_now (first, others, all, ended, which) (inl none) =
+        let same = none_ended.untold none in
+        (first, others, all, ap (λ x. x.ended) same ∙ ended, inl (ap (λ x. x.now) same ∙ none))
+    by_now (first, others, all, ended, inl none) (inr now) = absurd (told_and_untold mid none now)
+    by_now (first, others, all, ended, inr none) (inr now) = (first, others, all, none_ended.told now ∙ ended, inr none)
+
+pub tells_failed : (run : RunSoFar) (acks : List AckMark) (before mid after : DiskView) → IsOnlyCommitted run acks before mid → AddsNone mid after → TellsAcknowledged run acks [] before after
+tells_failed run acks before mid after o none_ended = record {
+  commits = o.commits;
+  each = o.each;
+  behind_is = tt;
+  told = subst (λ (l : List WholeCommit). TellsMore l before after) (sym (append-nil o.commits)) (tells_none o.commits before mid after o.told o.none_under_way none_ended);
+  one = inl refl;
 }
 
 -- ---- one commit more
 
 module _ (run : RunSoFar) (a : AckMark) (c : WholeCommit) where
-  one_commit : (reading : Option (List ℕ)) (acks : List AckMark) (commits : List WholeCommit) → AreCommitsOf run reading acks commits → IsCommitOf run (option_map (images_after commits) reading) a.epoch c → AreCommitsOf run reading (acks ++ a ∷ []) (commits ++ c ∷ [])
-  one_commit reading [] [] are is = (subst (λ (o : Option (List ℕ)). IsCommitOf run o a.epoch c) (sym (map_none reading)) is, tt)
-  one_commit reading [] (d ∷ commits) are is = absurd are
-  one_commit reading (b ∷ acks) [] are is = absurd are
-  one_commit reading (b ∷ acks) (d ∷ commits) are is =
-      (are.0, one_commit (option_map (λ r. image_after r d) reading) acks commits are.1 (subst (λ (o : Option (List ℕ)). IsCommitOf run o a.epoch c) (sym (map_then (λ r. image_after r d) (images_after commits) (images_after (d ∷ commits)) (λ r. refl) reading)) is))
+  one_commit : (count : ℕ) (reading : Option (List ℕ)) (acks : List AckMark) (commits : List WholeCommit) → AreCommitsOf run count reading acks commits → IsCommitOf run count (option_map (images_after commits) reading) a.epoch c
+      → AreCommitsOf run count reading (acks ++ a ∷ []) (commits ++ c ∷ [])
+  one_commit count reading [] [] are is = (subst (λ (o : Option (List ℕ)). IsCommitOf run count o a.epoch c) (sym (map_none reading)) is, tt)
+  one_commit count reading [] (d ∷ commits) are is = absurd are
+  one_commit count reading (b ∷ acks) [] are is = absurd are
+  one_commit count reading (b ∷ acks) (d ∷ commits) are is = (
+    are.0,
+    one_commit count (option_map (λ r. image_after r d) reading) acks commits are.1
+    (subst (λ (o : Option (List ℕ)). IsCommitOf run count o a.epoch c) (sym (map_then (λ r. image_after r d) (images_after commits) (images_after (d ∷ commits)) (λ r. refl) reading)) is),
+  )
 
-  tells_one : (commits : List WholeCommit) (before mid after : DiskView) → TellsMore commits before mid → AddsCommit c.blocks c.body mid after → TellsMore (commits ++ c ∷ []) before after
-  tells_one commits before mid after t adds = record { told = λ now. by_now (t.told now); untold = λ none. adds.untold (ap (λ x. x.now) (t.untold none) ∙ none) ∙ t.untold none }
+  none_after : (mid after : DiskView) → AddsCommit c.blocks c.body mid after → HasNoneBegun mid → HasNoneBegun after
+  none_after mid after adds (inl none) = inl (ap (λ x. x.now) (adds.untold none) ∙ none)
+  none_after mid after adds (inr now) = elim (adds.told now) [ inl one ↦ inr (ap (λ x. x.now) one) | inr less ↦ inl (ap (λ x. x.now) less) ]
+
+  tells_one : (commits : List WholeCommit) (before mid after : DiskView) → TellsMore commits before mid → (HasNoneBegun before → HasNoneBegun mid) → AddsCommit c.blocks c.body mid after → TellsMore (commits ++ c ∷ []) before after
+  tells_one commits before mid after t quiet adds = record {
+    told = λ now. by_now (t.told now) (quiet (inr now));
+    untold = λ none. adds.untold (ap (λ x. x.now) (t.untold none) ∙ none) ∙ t.untold none;
+  }
     where
-      by_now : TellsFirst commits before mid → TellsFirst (commits ++ c ∷ []) before after
-      by_now (first, others, all, ended, inl none) =
+      by_now : TellsFirst commits before mid → HasNoneBegun mid → TellsFirst (commits ++ c ∷ []) before after
+      by_now (first, others, all, ended, which) (inl none) =
           let same = adds.untold none in
           (first, others ++ c ∷ [], ap (λ (l : List WholeCommit). l ++ c ∷ []) all ∙ append_assoc first others (c ∷ []), ap (λ x. x.ended) same ∙ ended, inl (ap (λ x. x.now) same ∙ none))
-      by_now (first, others, all, ended, inr (now, none)) =
+      by_now (first, others, all, ended, inl none) (inr now) = absurd (told_and_untold mid none now)
+      by_now (first, others, all, ended, inr none) (inr now) =
           let whole : commits ≡ first = all ∙ ap (λ (l : List WholeCommit). first ++ l) none ∙ append-nil first in
           let held : mid.commits.ended ≡ before.commits.ended ++ map told_commit commits = ended ∙ ap (λ (l : List WholeCommit). before.commits.ended ++ map told_commit l) (sym whole) in
           elim (adds.told now) [
@@ -134,21 +213,22 @@ module _ (run : RunSoFar) (a : AckMark) (c : WholeCommit) where
               sym (append-nil (commits ++ c ∷ [])),
               ap (λ x. x.ended) one ∙ ap (λ (l : List Commit). l ++ told_commit c ∷ []) held ∙ append_assoc before.commits.ended (map told_commit commits) (told_commit c ∷ [])
                   ∙ ap (λ (l : List Commit). before.commits.ended ++ l) (sym (map-append told_commit commits (c ∷ []))),
-              inr (ap (λ x. x.now) one, refl),
+              inr refl,
             )
             | inr less ↦ (commits, c ∷ [], refl, ap (λ x. x.ended) less ∙ held, inl (ap (λ x. x.now) less))
           ]
 
-  pub committed_more : (acks : List AckMark) (before mid after : DiskView) → IsOnlyCommitted run acks before mid → IsCommitOf run mid.reading a.epoch c → after.writes ≡ calls_more (write_calls c.closes c.blocks) mid.writes
+  pub committed_more : (acks : List AckMark) (before mid after : DiskView) → IsOnlyCommitted run acks before mid → IsCommitOf run before.blocks mid.reading a.epoch c → after.writes ≡ calls_more (write_calls c.closes c.blocks) mid.writes
       → Reads (λ r. image_after r c) mid after → OnlyReading after → AddsCommit c.blocks c.body mid after → IsOnlyCommitted run (acks ++ a ∷ []) before after
   committed_more acks before mid after o is writes reads only adds =
       let calls = write_calls c.closes c.blocks in record {
         commits = o.commits ++ c ∷ [];
-        each = one_commit before.reading acks o.commits o.each (subst (λ (x : Option (List ℕ)). IsCommitOf run x a.epoch c) o.reads is);
+        each = one_commit before.blocks before.reading acks o.commits o.each (subst (λ (x : Option (List ℕ)). IsCommitOf run before.blocks x a.epoch c) o.reads is);
         writes = writes ∙ ap (calls_more calls) o.writes ∙ calls_then (calls_of o.commits) calls before.writes
             ∙ ap (λ (n : ℕ). calls_more n before.writes) (sym (sum_by-append (λ x. write_calls x.closes x.blocks) o.commits (c ∷ []) ∙ omega (arith, sum_by-cons (λ x. write_calls x.closes x.blocks) c [])));
         reads = reads ∙ ap (option_map (λ r. image_after r c)) o.reads
             ∙ map_then (images_after o.commits) (λ r. image_after r c) (images_after (o.commits ++ c ∷ [])) (λ r. sym (fold-append image_after r o.commits (c ∷ []))) before.reading;
         only = only;
-        told = tells_one o.commits before mid after o.told adds;
+        told = tells_one o.commits before mid after o.told o.none_under_way adds;
+        none_under_way = λ none. none_after mid after adds (o.none_under_way none);
       }

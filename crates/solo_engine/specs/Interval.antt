@@ -1,6 +1,6 @@
 -- What the parts of an interval do: the turns up to a barrier, the barrier with its fetch, the plan, and the commit with the
 -- release.
-use Rattle.std.specs.Prelude.{◌≡◌, ◌≤◌, ◌<◌, ◌+◌, ◌-◌, ◌*◌, ◌^◌, ℕ, ⊤, Bool, List, [], ◌∷◌, ◌++◌, drop}
+use Rattle.std.specs.Prelude.{◌≡◌, ◌↔◌, ◌≤◌, ◌<◌, ◌+◌, ◌-◌, ◌*◌, ◌^◌, ℕ, ⊤, Bool, List, [], ◌∷◌, ◌++◌, drop, slice_index, IsTrue}
 use Rattle.std.specs.List.{AllByRecursion}
 use Rattle.std.specs.Option.{ForSome}
 use Rattle.dev_traits.specs.Counts.{Rose}
@@ -22,11 +22,12 @@ use Rattle.run_defs.specs.Solo.{IsSoloPrefix, IsSoloSoFar}
 use Rattle.run_laws.specs.EpochGroups.{EpochsHaveGroups}
 use Rattle.run_laws.specs.OutputBetween.{BarriersLetOut, OutputHasParts}
 use Rattle.run_laws.specs.Rests.{IsTraceAtRest, RestsFollow, with_fetched}
+use Rattle.ckpt_chain.specs.Slot.{gate_place}
 use Rattle.ckpt_chain.specs.declared.slot.SlotBody.{SlotBody}
 use Rattle.ckpt_records.specs.Cost.{calls_for, cost_of}
 use Rattle.ckpt_records.specs.Holds.{IsCheckpointed}
 use Rattle.ckpt_records.specs.Newest.{NewestCheckpoint, nothing, checkpoint, HasNewest}
-use Rattle.commit_gate.specs.Whole.{AddsCommit, Reads, calls_more, finished, write_calls}
+use Rattle.commit_gate.specs.Whole.{AddsCommit, AddsNone, Reads, calls_more, finished, write_calls}
 use Rattle.commit_gate.specs.declared.whole.Block.{Block}
 use Rattle.page_flusher.specs.CommitPlan.{HasNewestOrNext, IsPlan}
 use Rattle.page_flusher.specs.KeptBlocks.{IsKeptAfter, Describes}
@@ -127,11 +128,14 @@ pub record IsUncommitted (k : KeptBlocks) (g : Group) (disk disk' : DiskView) : 
   pub later : disk.moment ≤ disk'.moment
   pub leaves : LeavesNewestOrNext k g disk disk'
   pub rose : Rose disk.faults disk'.faults
+  pub none_ended : AddsNone disk disk'
 
--- It was acknowledged: the plan is the disk's reading, and nothing else could be left. It closed the old gate first, or not.
+-- It was acknowledged: the plan is the disk's reading, and nothing else could be left. It closed the old gate first where that
+-- read 1.
 pub record IsCommitted (k : KeptBlocks) (g : Group) (planned : List Block) (body : SlotBody) (disk disk' : DiskView) (trace trace' : List Mark) (acks acks' : List AckMark) : Type 0 where
   pub blocks : disk'.blocks ≡ disk.blocks
   pub closes : Bool
+  pub closed : ForSome disk.reading (λ r. IsTrue closes ↔ (slice_index r (gate_place k.target) ≡ 1))
   pub writes : disk'.writes ≡ calls_more (write_calls closes planned) disk.writes
   pub later : disk.moment ≤ disk'.moment
   pub faults : disk.faults ≤ disk'.faults

@@ -16,6 +16,7 @@ returns-in-Ok-clause-committed g c =
     λ group ready. record {
       blocks = c.in-Ok.ensures.blocks;
       closes = c.closes.result;
+      closed = gate_read k before c.requires.gates c.closes.ensures;
       writes = subst (λ (l : List Block). after.writes ≡ calls_more (write_calls c.closes.result l) before.writes) c.as_slice-blocks.ensures c.in-Ok.ensures.writes;
       later = c.in-Ok.ensures.images.later;
       faults = c.in-Ok.ensures.later;
@@ -44,4 +45,5 @@ returns-in-Err-clause-uncommitted g c =
           (gate_read k before c.requires.gates c.closes.ensures)
           (subst (λ (l : List Block). LeavesOnly before after (IsDuring k.target c.closes.result l r.plan.body before.reading)) c.as_slice-blocks.ensures c.in-Err.ensures.images_err);
       rose = c.in-Err.ensures.cause;
+      none_ended = c.in-Err.ensures.commits_err;
     }
