@@ -1,5 +1,6 @@
 mod bounds;
 mod first_format;
+mod many;
 mod numbers;
 mod random;
 mod records;
