@@ -21,7 +21,7 @@ use Rattle.ckpt_records.specs.declared.origin.Origin.{Origin}
 use Rattle.page_flusher.specs.KeptBlocks.{DescribesOrigin, Describes, DescribesGates}
 use Rattle.page_flusher.specs.declared.kept.KeptBlocks.{KeptBlocks}
 use Rattle.sls_core.specs.Answers.{IsSoloRun}
-use Rattle.sls_core.specs.Safe.{RunSoFar, run_of}
+use Rattle.sls_core.specs.Safe.{run_of}
 use Rattle.sls_core.specs.declared.run.RunAnswer.TheVariants.{NoMemory, SinkFault}
 use Rattle.solo_engine.specs.Interval.{IsNewestAtStart, IsStart, ReleasesPart, ReleasesRest, rest_of}
 use Rattle.solo_engine.proofs.Intervals.{HasRun, IsQuiet, IsRunAtRest, RunHere, answered_quiet}
@@ -52,9 +52,6 @@ pub at_none : (P : List Mark → List AckMark → Type 0) (trace : List Mark) (a
 at_none P trace acks none p = subst (λ (t : List Mark). P t acks) (sym none.0) (subst (λ (a : List AckMark). P [] a) (sym none.1) p)
 
 module _ (limits : Limits) (start : Group) (origin : ℕ) (disk : DiskView) (out : SinkView) (b : IsBegun limits start origin disk out) where
-  run0 : RunSoFar
-  run0 = run_of limits start origin []
-
   kept_first : (kept : NewestCheckpoint) → epoch_after kept ≡ origin + 1 → IsNewestAtStart start kept → IsNewestOfRun (run_of limits start origin []) [] kept
   kept_first nothing next first = let same : 1 ≡ origin + 1 = next in let zero : origin ≡ 0 = omega (arith, same) in (zero, zero, refl)
   kept_first (checkpoint e h pages metas slot) next first =

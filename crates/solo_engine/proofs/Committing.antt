@@ -1,18 +1,16 @@
 -- A planned commit: what stops leave, and what its calls need.
-use Rattle.std.proofs.Common.{◌≡◌, ◌⊎◌, ◌≤◌, ℕ, ◌+◌, ◌*◌, Bool, List, length, Some, sym, ◌∙◌, subst, arith}
+use Rattle.std.proofs.Common.{◌≡◌, ◌≤◌, ℕ, ◌+◌, ◌*◌, Bool, List, length, Some, sym, ◌∙◌, subst, arith}
 use Rattle.std.specs.Prelude.{◌↔◌, slice_index, IsTrue}
 use Rattle.std.specs.Option.{ForSome}
 use Rattle.dev_traits.specs.Disk.{DiskView}
 use Rattle.dev_traits.specs.Since.{LeavesOnly, weaker}
 use Rattle.group_defs.specs.Group.{Group}
 use Rattle.ckpt_chain.specs.Slot.{gate_place}
-use Rattle.ckpt_chain.specs.declared.slot.Slot.{Slot}
-use Rattle.ckpt_records.specs.Holds.{HoldsAt}
 use Rattle.commit_gate.specs.ImageLaws.{in_steps}
-use Rattle.commit_gate.specs.Whole.{IsDuring, IsUnfinished, finished}
+use Rattle.commit_gate.specs.Whole.{IsDuring}
 use Rattle.solo_engine.specs.Interval.{IsPlanned, LeavesNewestOrNext}
 use Rattle.page_flusher.specs.CommitPlan.{HasNewestOr, HasNewestOrNext, IsBeforeCommit}
-use Rattle.ckpt_records.specs.Newest.{HasNewest, NewestCheckpoint, epoch_after, target_after}
+use Rattle.ckpt_records.specs.Newest.{HasNewest, NewestCheckpoint}
 use Rattle.page_flusher.specs.KeptBlocks.{Describes, DescribesGates, gate_in}
 use Rattle.solo_engine.specs.declared.interval.PlannedCommit.{PlannedCommit}
 use Rattle.page_flusher.specs.declared.kept.KeptBlocks.{KeptBlocks}

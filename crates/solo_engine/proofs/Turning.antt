@@ -6,7 +6,7 @@ use Rattle.std.proofs.lemmas.List.Sums.{fold-append}
 use Rattle.group_defs.specs.Group.{Group}
 use Rattle.group_defs.specs.Output.{last_position}
 use Rattle.group_defs.specs.Standing.{Standing, State}
-use Rattle.run_defs.specs.Legal.{HasBarrierCause, next_pid, ready}
+use Rattle.run_defs.specs.Legal.{next_pid, ready}
 use Rattle.run_defs.specs.Marks.{acked_epoch}
 use Rattle.run_defs.specs.Progress.{Progress, after_mark, progress_after}
 use Rattle.run_defs.specs.Solo.{IsSoloSoFar}
