@@ -18,7 +18,7 @@ use Rattle.group_defs.specs.ReadWrite.{put_outside, write, write_kind, write_ope
 use Rattle.group_defs.specs.Step.{after_effect, after_reply, call_in, effect_in, group_step, reply_in, served}
 use Rattle.group_defs.specs.declared.frame.Proc.{Proc}
 use Rattle.group_laws.proofs.Replies.{Leaves, Plain, call_holds, clone_leaves, openat_leaves, served_or_refused, written_reply}
-use Rattle.group_laws.specs.Outside.{bytes_for_outside, effect_writes_outside, is_open_outside, is_outside, step_writes_outside, writes_outside}
+use Rattle.group_laws.specs.Outside.{bytes_for_outside, effect_writes_outside, is_open_outside, is_outside_kind, step_writes_outside, call_writes_outside}
 use Rattle.rv64_isa.specs.Instruction.{Effect, calls, steps, traps}
 use Rattle.rv64_isa.specs.Memory.{bytes_with, readable}
 use Rattle.rv64_isa.specs.Registers.{a1, a2, call_number}
@@ -57,12 +57,12 @@ module _ (g : Group) (p : Proc) where
   write_elsewhere : (x : Option Open) → is_open_outside x ≡ false → Leaves Stays (write_open g (sight g p) (regs_of p) x)
   write_elsewhere x elsewhere =
       written_reply (Leaves Stays) g (sight g p) tt (λ errno. tt) refl (λ value pipes. refl) (λ value pairs. refl) (regs_of p) x
-      (λ o at is. absurd (false≢true (sym elsewhere ∙ ap is_open_outside at ∙ ap is_outside is))) (λ o at object is bytes within. refl)
+      (λ o at is. absurd (false≢true (sym elsewhere ∙ ap is_open_outside at ∙ ap is_outside_kind is))) (λ o at object is bytes within. refl)
 
-  call_leaves : (durable : Bool) (number : ℕ) → writes_outside g p number ≡ false → Leaves Stays (call_in durable g p number)
-  unfolding writes_outside
+  call_leaves : (durable : Bool) (number : ℕ) → call_writes_outside g p number ≡ false → Leaves Stays (call_in durable g p number)
+  unfolding call_writes_outside
   call_leaves durable =
-      call_holds durable g p Stays plain_stays (λ n r. writes_outside g p n ≡ false → Leaves Stays r) (λ n r leaves e. leaves)
+      call_holds durable g p Stays plain_stays (λ n r. call_writes_outside g p n ≡ false → Leaves Stays r) (λ n r leaves e. leaves)
       (λ e. openat_leaves g p Stays (record { old = λ f flags fds is. refl; cleared = λ f flags fds is. refl; made = λ name flags fds. refl }) (sight g p) (regs_of p))
       (λ e. write_elsewhere (open_at p.fds g.frame.opens (fd_of (regs_of p))) e) (λ e. clone_leaves g p Stays (λ can. forked_stays _) (regs_of p))
 
@@ -82,7 +82,7 @@ module _ (g : Group) (p : Proc) where
       number = call_number (regs_of p)
   effect_leaves durable (traps status) elsewhere = refl
 
-pub output_left_by_calls : (durable : Bool) (g : Group) (p : Proc) (number : ℕ) → writes_outside g p number ≡ false → (after_reply g p (call_in durable g p number)).frame.out ≡ g.frame.out
+pub output_left_by_calls : (durable : Bool) (g : Group) (p : Proc) (number : ℕ) → call_writes_outside g p number ≡ false → (after_reply g p (call_in durable g p number)).frame.out ≡ g.frame.out
 output_left_by_calls durable g p number elsewhere = after_leaves g p (call_in durable g p number) (call_leaves g p durable number elsewhere)
 
 pub output_left_by_steps : (durable : Bool) (g : Group) (pid : ℕ) → step_writes_outside g pid ≡ false → (group_step durable g pid).frame.out ≡ g.frame.out
@@ -129,7 +129,7 @@ module _ (g : Group) (p : Proc) where
       by_count true e = let none = eqb-true n 0 e in nothing (taken read) (none_read buf (min n (room g.frame.out)) (omega (arith, none)))
       by_count false e = by_room (room g.frame.out == 0) refl
 
-  kind_appends : (o : Open) (kind : OpenKind) → is_outside kind ≡ true → Appends (bytes_for_outside g p) (write_kind g (sight g p) o (a1 (regs_of p)) (a2 (regs_of p)) kind)
+  kind_appends : (o : Open) (kind : OpenKind) → is_outside_kind kind ≡ true → Appends (bytes_for_outside g p) (write_kind g (sight g p) o (a1 (regs_of p)) (a2 (regs_of p)) kind)
   unfolding bytes_for_outside
   kind_appends o kinds.Outside is = outside_appends (a1 (regs_of p)) (a2 (regs_of p))
   kind_appends o kinds.Nothing is = absurd (false≢true is)
@@ -143,8 +143,8 @@ module _ (g : Group) (p : Proc) where
   open_appends (Some o) is = kind_appends o o.kind is
 
   -- a reply to write, by whatever number
-  write_appends : (reply : ℕ → Reply Group) → reply 64 ≡ write g p (sight g p) (regs_of p) → (number : ℕ) → writes_outside g p number ≡ true → Appends (bytes_for_outside g p) (reply number)
-  unfolding writes_outside
+  write_appends : (reply : ℕ → Reply Group) → reply 64 ≡ write g p (sight g p) (regs_of p) → (number : ℕ) → call_writes_outside g p number ≡ true → Appends (bytes_for_outside g p) (reply number)
+  unfolding call_writes_outside
   write_appends reply its number is =
       let both = and_parts (number == 64) (is_open_outside (open_at p.fds g.frame.opens (fd_of (regs_of p)))) is in
       subst (λ n. Appends (bytes_for_outside g p) (reply n)) (sym (eqb-true number 64 both.0)) (subst (Appends (bytes_for_outside g p)) (sym its) (open_appends (open_at p.fds g.frame.opens (fd_of (regs_of p))) both.1))
@@ -155,7 +155,7 @@ module _ (g : Group) (p : Proc) where
   effect_appends durable calls is = write_appends (reply_in durable g p) refl (call_number (regs_of p)) is
   effect_appends durable (traps status) is = absurd (false≢true is)
 
-pub written_by_calls : (durable : Bool) (g : Group) (p : Proc) (number : ℕ) → writes_outside g p number ≡ true → (after_reply g p (call_in durable g p number)).frame.out ≡ with_output g.frame.out (bytes_for_outside g p)
+pub written_by_calls : (durable : Bool) (g : Group) (p : Proc) (number : ℕ) → call_writes_outside g p number ≡ true → (after_reply g p (call_in durable g p number)).frame.out ≡ with_output g.frame.out (bytes_for_outside g p)
 unfolding call_in
 written_by_calls durable g p number is = write_appends g p (call_in durable g p) refl number is
 

@@ -16,22 +16,22 @@ use Rattle.rv64_isa.specs.Memory.{readable}
 use Rattle.rv64_isa.specs.Registers.{a1, a2, call_number}
 
 -- whether a description is the outside
-abbrev pub is_outside : OpenKind → Bool
-is_outside kinds.Outside = true
-is_outside kind = false
+abbrev pub is_outside_kind : OpenKind → Bool
+is_outside_kind kinds.Outside = true
+is_outside_kind kind = false
 
 abbrev pub is_open_outside : Option Open → Bool
 is_open_outside None = false
-is_open_outside (Some o) = is_outside o.kind
+is_open_outside (Some o) = is_outside_kind o.kind
 
 -- The call by this number is write, and the caller's descriptor is at the outside.
-unfoldable pub writes_outside : Group → Proc → ℕ → Bool
-writes_outside g p number = (number == WRITE) && is_open_outside (open_at p.fds g.frame.opens (fd_of (regs_of p)))
+unfoldable pub call_writes_outside : Group → Proc → ℕ → Bool
+call_writes_outside g p number = (number == WRITE) && is_open_outside (open_at p.fds g.frame.opens (fd_of (regs_of p)))
 
 -- The next step of the running process by this pid is such a call.
 abbrev pub effect_writes_outside : Group → Proc → Effect → Bool
 effect_writes_outside g p (steps r stored) = false
-effect_writes_outside g p calls = writes_outside g p (call_number (regs_of p))
+effect_writes_outside g p calls = call_writes_outside g p (call_number (regs_of p))
 effect_writes_outside g p (traps status) = false
 
 unfoldable pub step_writes_outside : Group → ℕ → Bool

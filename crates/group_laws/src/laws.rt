@@ -15,7 +15,7 @@ ghost use Rattle.group_defs.specs.Objects.{is_of_file, maps_object};
 ghost use Rattle.group_defs.specs.Output.{with_output};
 ghost use Rattle.group_defs.specs.Standing.{Standing, State, acknowledged, barrier, is_durable, since_of, stepped};
 ghost use Rattle.group_laws.specs.Fresh.{IsFresh, Rises};
-ghost use Rattle.group_laws.specs.Outside.{bytes_for_outside, step_writes_outside, writes_outside};
+ghost use Rattle.group_laws.specs.Outside.{bytes_for_outside, step_writes_outside, call_writes_outside};
 ghost use Rattle.group_defs.specs.Step.{after_effect, after_reply, call_in, group_step, group_waits, is_local};
 ghost use Rattle.group_defs.specs.Pages.{is_among, touched_by_reply, touched_with_step};
 ghost use Rattle.group_defs.specs.Valid.{GroupIsValid};
@@ -135,12 +135,12 @@ pub fn others_stay_by_calls()
 /// and none where one of them can't be read.
 pub fn others_leave_the_output()
     ensures calls { (durable : Bool) (g : Group) (p : Proc) (number : ℕ)
-        → writes_outside g p number ≡ false
+        → call_writes_outside g p number ≡ false
         → (after_reply g p (call_in durable g p number)).frame.out ≡ g.frame.out }
     ensures step { (durable : Bool) (g : Group) (pid : ℕ) → step_writes_outside g pid ≡ false
         → (group_step durable g pid).frame.out ≡ g.frame.out }
     ensures written { (durable : Bool) (g : Group) (p : Proc) (number : ℕ)
-        → writes_outside g p number ≡ true
+        → call_writes_outside g p number ≡ true
         → (after_reply g p (call_in durable g p number)).frame.out
         ≡ with_output g.frame.out (bytes_for_outside g p) }
     ensures written_by_step { (durable : Bool) (g : Group) (pid : ℕ) (p : Proc)

@@ -25,7 +25,7 @@ use Rattle.run_laws.proofs.ReadyLaws.{each_next}
 use Rattle.run_laws.proofs.LegalLaws.{begins_in_order}
 use Rattle.run_laws.proofs.RunLaws.{IsGood, few_turns, good_kept, origin_after, steps_after, steps_few}
 use Rattle.run_laws.proofs.TurnLaws.{step_cases}
-use Rattle.run_laws.specs.Leases.{AreApart, AreOfRunning}
+use Rattle.run_laws.specs.Leases.{AreDistinct, AreOfRunning}
 
 -- ---- lists of leases
 
@@ -87,16 +87,16 @@ others_differ worker pid (x ∷ xs) h e = by_test (is_lease worker pid x) refl (
 
 -- ---- apart
 
-no_lease_apart : AreApart []
+no_lease_apart : AreDistinct []
 no_lease_apart = record { workers = λ i j d lt within. absurd (omega (arith, within)); pids = λ i j d lt within. absurd (omega (arith, within)) }
 
-push_apart : (leases : List Lease) (worker pid : ℕ) → is_idle leases worker ≡ true → is_unleased leases pid ≡ true → AreApart leases → AreApart (leases ++ record { worker = worker; pid = pid; moved = false } ∷ [])
+push_apart : (leases : List Lease) (worker pid : ℕ) → is_idle leases worker ≡ true → is_unleased leases pid ≡ true → AreDistinct leases → AreDistinct (leases ++ record { worker = worker; pid = pid; moved = false } ∷ [])
 push_apart leases worker pid idle unleased h = record {
   workers = all_pairs_push (λ a b. a.worker ≡ b.worker → ⊥) leases _ h.workers (none_passes (λ l. l.worker == worker) (λ l. l.worker ≡ worker → ⊥) (λ l e same. absurd (eqb-false l.worker worker e same)) leases (not_true _ idle));
   pids = all_pairs_push (λ a b. a.pid ≡ b.pid → ⊥) leases _ h.pids (none_passes (λ l. l.pid == pid) (λ l. l.pid ≡ pid → ⊥) (λ l e same. absurd (eqb-false l.pid pid e same)) leases (not_true _ unleased));
 }
 
-turn_apart : (leases : List Lease) (worker pid : ℕ) (did : Bool) → AreApart leases → AreApart (leases_after_turn worker pid did leases)
+turn_apart : (leases : List Lease) (worker pid : ℕ) (did : Bool) → AreDistinct leases → AreDistinct (leases_after_turn worker pid did leases)
 turn_apart leases worker pid did h =
     let f : Lease → Lease = λ l. record l { moved = did || l.moved } in
     let t : Lease → Bool = λ l. not (is_lease worker pid l) in
@@ -148,15 +148,15 @@ next_is : (leases : List Lease) (s : State) (last pid : ℕ) → next_pid last (
 unfolding ready
 next_is leases s last pid next = each_next (λ x. (is_unleased leases x ≡ true) × Runs s.group x) last _ pid (unleased_ready leases (Runs s.group) _ (ready_run s s.group.frame.procs (λ p e. e))) next
 
-pub apart_kept : (limits : Limits) (r : Progress) (m : Mark) → Allowed limits r m → AreApart r.leases → AreApart (after_mark limits.quantum r m).leases
+pub apart_kept : (limits : Limits) (r : Progress) (m : Mark) → Allowed limits r m → AreDistinct r.leases → AreDistinct (after_mark limits.quantum r m).leases
 apart_kept limits r (Take worker pid) a h = push_apart r.leases worker pid a.idle (next_is r.leases r.state r.taken pid a.next).0 h
 apart_kept limits r (Turn worker pid n) a h = turn_apart r.leases worker pid (does_something r.state pid n) h
 apart_kept limits r (Barrier epoch) a h = h
 apart_kept limits r (Fetch epoch) a h = h
 apart_kept limits r (Ack epoch) a h = h
 
-pub leases_apart : (start : Group) (origin : ℕ) (limits : Limits) (marks : List Mark) → Legal start origin limits marks → AreApart (progress_after limits.quantum (progress_at origin start) marks).leases
-leases_apart start origin limits marks legal = each_keeps (Allowed limits) limits.quantum (λ r. AreApart r.leases) (apart_kept limits) (progress_at origin start) marks legal no_lease_apart
+pub leases_apart : (start : Group) (origin : ℕ) (limits : Limits) (marks : List Mark) → Legal start origin limits marks → AreDistinct (progress_after limits.quantum (progress_at origin start) marks).leases
+leases_apart start origin limits marks legal = each_keeps (Allowed limits) limits.quantum (λ r. AreDistinct r.leases) (apart_kept limits) (progress_at origin start) marks legal no_lease_apart
 
 -- ---- running
 
@@ -180,7 +180,7 @@ other_steps s pid (suc n) other valid differ runs = other_step (steps_of s pid n
 
 -- A turn leaves the others' processes running, and its own lease ends.
 turn_runs : (quantum : ℕ) (r : Progress) (worker pid n : ℕ) → ((k : ℕ) → k < steps_in quantum n → GroupIsValid (steps_of r.state pid k).group)
-    → list_any (is_lease worker pid) r.leases ≡ true → AreApart r.leases → AreOfRunning r.state.group r.leases
+    → list_any (is_lease worker pid) r.leases ≡ true → AreDistinct r.leases → AreOfRunning r.state.group r.leases
     → AreOfRunning (turned quantum r.state pid n).group (leases_after_turn worker pid (does_something r.state pid n) r.leases)
 unfolding OtherPid Runs
 turn_runs quantum r worker pid n valid leased apart run =
@@ -192,7 +192,7 @@ turn_runs quantum r worker pid n valid leased apart run =
 
 module _ (limits : Limits) (origin : ℕ) (small : LimitsFit limits) where
   StandsApart : Progress → Type 0
-  StandsApart r = IsGood limits origin small r × AreApart r.leases × AreOfRunning r.state.group r.leases
+  StandsApart r = IsGood limits origin small r × AreDistinct r.leases × AreOfRunning r.state.group r.leases
 
   kept_by : (r : Progress) (m : Mark) → Allowed limits r m → StandsApart r → StandsApart (after_mark limits.quantum r m)
   unfolding StandsApart Runs

@@ -5,7 +5,7 @@ use Rattle.group_defs.specs.declared.frame.Proc.{Proc}
 use Rattle.run_defs.specs.Progress.{Lease}
 
 -- No worker has two, and no process.
-pub record AreApart (leases : List Lease) : Type 0 where
+pub record AreDistinct (leases : List Lease) : Type 0 where
   pub workers : AllPairs (λ a b. a.worker ≡ b.worker → ⊥) leases
   pub pids : AllPairs (λ a b. a.pid ≡ b.pid → ⊥) leases
 

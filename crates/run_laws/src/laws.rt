@@ -23,7 +23,7 @@ ghost use Rattle.run_defs.specs.Ends.{HasEnded, IsDone};
 ghost use Rattle.run_defs.specs.Legal.{AckAllowed, Allowed, FetchAllowed, Legal, has_moved, ready};
 ghost use Rattle.run_defs.specs.Limits.{LimitsFit};
 ghost use Rattle.run_defs.specs.Progress.{Progress, after_mark, appended, checkpoint, checkpoint_of, group_of_epoch, is_lease, progress_after, progress_at};
-ghost use Rattle.run_laws.specs.Leases.{AreApart, AreOfRunning};
+ghost use Rattle.run_laws.specs.Leases.{AreDistinct, AreOfRunning};
 ghost use Rattle.run_laws.specs.Order.{IsInOrder, Follows};
 ghost use Rattle.run_laws.specs.Smallest.{default_limits, exits_at_once, exit_trace, says_hi, hi_trace, asks_in_vain, family, family_left, two_processes, two_workers, two_workers_trace};
 ghost use Rattle.run_defs.specs.Solo.{IsSoloPrefix, IsSoloSoFar, IsSoloTrace};
@@ -280,7 +280,7 @@ pub fn first_checkpoint_has_all()
 pub fn leases_are_apart()
     ensures apart { (start : Group) (origin_epoch : ℕ) (limits : Limits) (marks : List Mark)
         → Legal start origin_epoch limits marks
-        → AreApart (progress_after limits.quantum (progress_at origin_epoch start) marks).leases }
+        → AreDistinct (progress_after limits.quantum (progress_at origin_epoch start) marks).leases }
     ensures running { (limits : Limits) (origin_epoch : ℕ) (start : Group) (marks : List Mark)
         → LimitsFit limits
         → GroupIsValid start → HasUnwornNumbers start.frame → Legal start origin_epoch limits marks
