@@ -5,7 +5,7 @@ use Rattle.std.specs.Option.{option_map}
 use Rattle.std.proofs.lemmas.List.{map-append}
 use Rattle.std.proofs.lemmas.List.Elements.{filter_map-append}
 use Rattle.std.proofs.lemmas.List.Sums.{fold-append, sum_by-append, sum_by-cons}
-use Rattle.dev_traits.specs.Commits.{Commit, nothing_written, untold}
+use Rattle.dev_traits.specs.Commits.{Commit, nothing_written}
 use Rattle.dev_traits.specs.Disk.{DiskView, OnlyReading}
 use Rattle.group_defs.specs.Group.{Group}
 use Rattle.run_defs.specs.Progress.{IsGroupOf, group_of_epoch}
