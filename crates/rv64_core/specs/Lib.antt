@@ -1,3 +1,5 @@
 pub mod Flat
 pub mod Step
+pub mod Steps
+pub mod Fitting
 pub mod ByteLaws

@@ -99,14 +99,14 @@ impl Space for Flat {
 
     ghost all_private = { λ s address. flat_private s.rights.items s.bytes.items address };
 
-    fn fetch(&self, pc: u64) -> Option<u32> {
+    fn fetch(&mut self, pc: u64) -> Option<u32> {
         match self.number(4, pc, 4) {
             Some(word) => Some(word as u32),
             None => None,
         }
     }
 
-    fn load(&self, address: u64, n: u8) -> Option<u64> {
+    fn load(&mut self, address: u64, n: u8) -> Option<u64> {
         self.number(1, address, n)
     }
 

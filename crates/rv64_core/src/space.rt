@@ -25,15 +25,21 @@ pub trait Space {
     ghost all_private: { (s : Self) (address : ℕ) → ForSome (cells s address)
         (λ c. c.shared ≡ false) };
 
-    /// The word at pc; none where one of its four bytes isn't private or lacks EXEC.
-    fn fetch(&self, pc: u64) -> Option<u32>
-        ensures { result ≡ fetched (cells self.now) pc };
+    /// The word at pc; none where one of its four bytes isn't private or lacks EXEC. What is kept to find a page sooner may
+    /// change, and nothing that is seen.
+    fn fetch(&mut self, pc: u64) -> Option<u32>
+        ensures value { result ≡ fetched (cells self.old) pc }
+        ensures cells { cells self.new ≡ cells self.old }
+        ensures table { Self.table self.new ≡ Self.table self.old };
 
-    /// The number in n bytes; none where one of them isn't private or lacks READ.
-    fn load(&self, address: u64, n: u8) -> Option<u64>
+    /// The number in n bytes; none where one of them isn't private or lacks READ. What is kept to find a page sooner may
+    /// change, and nothing that is seen.
+    fn load(&mut self, address: u64, n: u8) -> Option<u64>
         requires { IsSize n }
-        ensures value { result ≡ option_map number_of (readable (cells self.now) address n) }
-        ensures range { IfSome result (λ v. v < 2 ^ (8 * n)) };
+        ensures value { result ≡ option_map number_of (readable (cells self.old) address n) }
+        ensures range { IfSome result (λ v. v < 2 ^ (8 * n)) }
+        ensures cells { cells self.new ≡ cells self.old }
+        ensures table { Self.table self.new ≡ Self.table self.old };
 
     /// Stores the low n bytes of a value; false, and nothing is stored, where one of them isn't private or lacks WRITE.
     fn store(&mut self, address: u64, n: u8, value: u64) -> Result<bool, NoMemory>
