@@ -1,7 +1,7 @@
 ghost use Rattle.rv64_core.specs.Flat.{flat_cells, flat_private};
 
 use lists::NoMemory;
-use rv64_core::{Flat, Local, Regs, Space, local_step};
+use rv64_core::{DecodeCache, Flat, Local, Regs, Space, local_step, local_steps};
 use std::alloc::{AllocError, Global};
 use std::test::Fail;
 
@@ -18,16 +18,6 @@ fn memory(alloc: Global, rights: [u8; 3], words: &[u32]) -> Result<Flat, AllocEr
         rights: Vec::from_array(alloc, rights)?,
         bytes,
     })
-}
-
-/// The number of steps, at most 100, until one isn't local.
-fn run<S: Space>(regs: &mut Regs, space: &mut S) -> u32 {
-    for steps in 0..100 {
-        if local_step(regs, space) != Local::Stepped {
-            return steps;
-        }
-    }
-    100
 }
 
 const PROGRAM: [u32; 20] = [
@@ -56,8 +46,11 @@ const PROGRAM: [u32; 20] = [
 #[test]
 fn a_program_runs_to_its_first_step_that_is_not_local(rt: HostRuntime) -> Result<(), Fail> {
     let mut space = memory(rt.alloc(), [7, 3, 0], &PROGRAM)?;
+    let mut cache = DecodeCache::new(rt.alloc())?;
     let mut regs = Regs { pc: 0, x: [0; 31] };
-    assert_eq!(rt; run(&mut regs, &mut space), 30);
+    let (made, why) = local_steps(&mut regs, &mut space, &mut cache, 100);
+    assert_eq!(rt; made, 30);
+    assert_eq!(rt; why, Local::Shared);
     let mut wanted = Regs { pc: 76, x: [0; 31] };
     wanted.put(2, 0xffff_ffff_ffff_ff8f);
     wanted.put(3, 4096);
@@ -75,6 +68,7 @@ fn a_program_runs_to_its_first_step_that_is_not_local(rt: HostRuntime) -> Result
 
 #[test]
 fn what_is_not_local_changes_nothing(rt: HostRuntime) -> Result<(), Fail> {
+    let mut cache = DecodeCache::new(rt.alloc())?;
     for (word, rights, what) in [
         (0x0000_0073, [7, 3, 3], "ecall"),
         (0x0010_0073, [7, 3, 3], "ebreak"),
@@ -101,7 +95,8 @@ fn what_is_not_local_changes_nothing(rt: HostRuntime) -> Result<(), Fail> {
         regs.put(1, u64::MAX);
         regs.put(3, 8192);
         let before = regs;
-        assert_eq!(rt; local_step(&mut regs, &mut space), Local::Shared, "{what}");
+        let answer = local_step(&mut regs, &mut space, &mut cache);
+        assert_eq!(rt; answer, Local::Shared, "{what}");
         assert!(rt; regs == before, "{what}");
         assert!(rt; space.bytes.iter().skip(4).all(|b| *b == 0), "{what}");
     }
@@ -124,11 +119,11 @@ impl Space for Exhausted {
     ghost all_private = { λ s address. flat_private s.flat.rights.items s.flat.bytes.items
         address };
 
-    fn fetch(&self, pc: u64) -> Option<u32> {
+    fn fetch(&mut self, pc: u64) -> Option<u32> {
         self.flat.fetch(pc)
     }
 
-    fn load(&self, address: u64, n: u8) -> Option<u64> {
+    fn load(&mut self, address: u64, n: u8) -> Option<u64> {
         self.flat.load(address, n)
     }
 
@@ -151,8 +146,38 @@ fn a_store_without_memory_changes_nothing(rt: HostRuntime) -> Result<(), Fail> {
     regs.put(1, u64::MAX);
     regs.put(3, 8192);
     let before = regs;
-    assert_eq!(rt; local_step(&mut regs, &mut space), Local::NoMemory);
+    let mut cache = DecodeCache::new(rt.alloc())?;
+    assert_eq!(rt;
+        local_step(&mut regs, &mut space, &mut cache),
+        Local::NoMemory
+    );
     assert!(rt; regs == before);
+    let (made, why) = local_steps(&mut regs, &mut space, &mut cache, 10);
+    assert_eq!(rt; made, 0);
+    assert_eq!(rt; why, Local::NoMemory);
     assert_eq!(rt; space.load(8185, 8), Some(0));
+    Ok(())
+}
+
+#[test]
+fn steps_end_at_their_number_or_before_a_step_that_is_not_local(
+    rt: HostRuntime,
+) -> Result<(), Fail> {
+    // jal x0, 0: it jumps to itself for ever
+    let mut space = memory(rt.alloc(), [7, 3, 3], &[0x0000_006f])?;
+    let mut cache = DecodeCache::new(rt.alloc())?;
+    let mut regs = Regs { pc: 0, x: [0; 31] };
+    let (made, why) = local_steps(&mut regs, &mut space, &mut cache, 10);
+    assert_eq!(rt; made, 10);
+    assert_eq!(rt; why, Local::Stepped);
+    let (made, why) = local_steps(&mut regs, &mut space, &mut cache, 0);
+    assert_eq!(rt; made, 0);
+    assert_eq!(rt; why, Local::Stepped);
+    // the same pc with another word: addi x1, x0, 5, and then what is no instruction
+    assert_eq!(rt; space.store(0, 4, 0x0050_0093).is_ok(), true);
+    let (made, why) = local_steps(&mut regs, &mut space, &mut cache, 10);
+    assert_eq!(rt; made, 1);
+    assert_eq!(rt; why, Local::Shared);
+    assert_eq!(rt; regs.get(1), 5);
     Ok(())
 }
