@@ -1,6 +1,7 @@
 -- The number that bytes spell.
-use Rattle.std.proofs.Common.{◌≡◌, ℕ, suc, ◌+◌, ◌*◌, ◌^◌, ◌<◌, ◌≤◌, List, [], ◌∷◌, ◌++◌, length, get_or, drop, refl, arith, w8, w64, Fits}
+use Rattle.std.proofs.Common.{◌≡◌, ℕ, suc, ◌+◌, ◌*◌, ◌^◌, ◌<◌, ◌≤◌, List, [], ◌∷◌, ◌++◌, length, get_or, drop, refl, arith, w8, w32, w64, Fits}
 use Rattle.std.specs.Int.{from_le_bytes}
+use Rattle.std.specs.Prelude.{slice_index}
 use Rattle.std.proofs.lemmas.List.{get_or_default}
 use Rattle.std.proofs.lemmas.List.Elements.{All-head, All-tail}
 use Rattle.rv64_isa.specs.Numbers.{number_of}
@@ -23,6 +24,16 @@ padded (a ∷ b ∷ c ∷ d ∷ e ∷ f ∷ []) few = omega arith
 padded (a ∷ b ∷ c ∷ d ∷ e ∷ f ∷ g ∷ []) few = omega arith
 padded (a ∷ b ∷ c ∷ d ∷ e ∷ f ∷ g ∷ h ∷ []) few = omega arith
 padded (a ∷ b ∷ c ∷ d ∷ e ∷ f ∷ g ∷ h ∷ i ∷ more) few = absurd (omega arith)
+
+-- four bytes, each read by its place
+pub four : (bytes : List ℕ) → length bytes ≡ 4 → from_le_bytes w32 (slice_index bytes 0 ∷ slice_index bytes 1 ∷ slice_index bytes 2 ∷ slice_index bytes 3 ∷ []) ≡ number_of bytes
+unfolding number_of
+four [] is = absurd (omega (arith, is))
+four (a ∷ []) is = absurd (omega (arith, is))
+four (a ∷ b ∷ []) is = absurd (omega (arith, is))
+four (a ∷ b ∷ c ∷ []) is = absurd (omega (arith, is))
+four (a ∷ b ∷ c ∷ d ∷ []) is = omega arith
+four (a ∷ b ∷ c ∷ d ∷ e ∷ more) is = absurd (omega (arith, is))
 
 -- it fits so many bytes
 pub number_small : (bytes : List ℕ) → AreBytes bytes → number_of bytes < 2 ^ (8 * length bytes)

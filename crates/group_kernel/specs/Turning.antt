@@ -1,19 +1,9 @@
 -- The local steps of a turn.
-use Rattle.std.specs.Prelude.{◌≡◌, ℕ, Bool, true, if◌then◌else◌, IsTrue}
+use Rattle.std.specs.Prelude.{◌≡◌, ℕ, IsTrue}
 use Rattle.group_defs.specs.Standing.{Standing}
-use Rattle.group_defs.specs.Step.{group_step, is_local}
 use Rattle.run_defs.specs.Turns.{AllLocal, steps_of}
 use Rattle.group_kernel.specs.Engine.{IsRunnable, group_in, state_in}
 use Rattle.group_kernel.specs.declared.engine_group.EngineGroup.{EngineGroup}
-
--- a step was made where it is local, and the process still runs in a valid group
-pub record IsTried (g h : EngineGroup) (stepped : Bool) : Type 0 where
-  pub local : is_local (group_in g) g.fixed.pid ≡ stepped
-  pub group : group_in h ≡ (if stepped then group_step true (group_in g) g.fixed.pid else group_in g)
-  pub running : IsTrue h.running
-  pub runnable : IsRunnable (group_in h)
-  pub out : h.out ≡ g.out
-  pub fixed : h.fixed ≡ g.fixed
 
 -- n local steps were made, whatever stands beside the group, and the process still runs in a valid group
 pub record HasStepped (g h : EngineGroup) (n : ℕ) : Type 0 where

@@ -18,14 +18,14 @@ use crate::engine_group::{EngineGroup, Fixed};
 use group_defs::calls::{EBADF, EFAULT, ENOSYS, EXIT, EXIT_GROUP, WRITE};
 use group_defs::{Open, OpenKind};
 use lists::NoMemory;
-use rv64_core::{Regs, Space};
+use rv64_core::Regs;
 use rv64_isa::{Act, act_at};
 
 /// Whether the instruction at pc is a system call.
 fn is_at_call(g: &EngineGroup) -> bool
     ensures { IsTrue result ↔ (instruction (cells_in g.now) g.now.regs ≡ calls) }
 {
-    match g.memory.fetch(g.regs.pc) {
+    match g.memory.word_at(g.regs.pc) {
         Some(word) => matches!(act_at(&g.regs, word), Act::Calls),
         None => false,
     }

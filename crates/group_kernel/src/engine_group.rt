@@ -6,7 +6,7 @@ ghost use Rattle.group_kernel.specs.Engine.{group_in, IsRunnable};
 use crate::process_memory::ProcessMemory;
 use group_defs::{Next, ObjectRec, Open, Out};
 use lists::Seq;
-use rv64_core::Regs;
+use rv64_core::{DecodeCache, Regs};
 
 /// What no step changes while the process runs. The process has no parent.
 #[derive(Debug, Drop)]
@@ -20,7 +20,8 @@ pub struct Fixed {
     pub next: Next,
 }
 
-/// A group of at most one process. Once the process has ended, only the next numbers and the output count.
+/// A group of at most one process. Once the process has ended, only the next numbers and the output count. The words that
+/// were decoded are no part of the group, and change nothing of what it does.
 #[derive(Drop)]
 pub struct EngineGroup {
     pub running: bool,
@@ -28,6 +29,7 @@ pub struct EngineGroup {
     pub memory: ProcessMemory,
     pub fixed: Fixed,
     pub out: Out,
+    pub decoded: DecodeCache,
 }
 
 /// The most bytes of output behind the mark.

@@ -12,7 +12,7 @@ use ckpt_records::Parts;
 use group_defs::{Frame, Next, ObjectRec, Open, Out, Proc};
 use lists::{NoMemory, Seq};
 use mem_objects::Layer;
-use rv64_core::Regs;
+use rv64_core::{DecodeCache, Regs};
 use std::alloc::Global;
 
 const PAGE_SIZE: usize = 4_096;
@@ -102,6 +102,7 @@ fn with_process(
             next,
         },
         out,
+        decoded: DecodeCache::new(alloc)?,
     })
 }
 
@@ -124,6 +125,7 @@ fn without_process(alloc: Global, next: Next, out: Out) -> Result<EngineGroup, N
             next,
         },
         out,
+        decoded: DecodeCache::new(alloc)?,
     })
 }
 

@@ -2,7 +2,7 @@
 ghost use Rattle.std.specs.Prelude.{◌≡◌, ◌<◌, ◌≤◌, ◌+◌, ◌*◌, ◌++◌, ◌^◌, ℕ, List, IfOk, IfNone, IfSome, MatchOption, length, slice_index_or, is_some, take};
 ghost use Rattle.std.specs.List.Sorted.{IsPartitionPoint};
 ghost use Rattle.std.specs.Option.{option_map};
-ghost use Rattle.rv64_isa.specs.Memory.{byte_with, bytes_with, readable};
+ghost use Rattle.rv64_isa.specs.Memory.{byte_with, bytes_with, fetched, readable};
 ghost use Rattle.rv64_isa.specs.Numbers.{number_of};
 ghost use Rattle.group_defs.specs.Cells.{bytes_in, cells_of, with_byte_at, with_stored};
 ghost use Rattle.address_maps.specs.Mappings.{mapping_at, AreApart};
@@ -77,6 +77,15 @@ fn number_in(bytes: &[u8]) -> u64
     let mut low_first = [0; 8];
     low_first[..bytes.len()].copy_from_slice(bytes);
     u64::from_le_bytes(low_first)
+}
+
+// The number that four bytes spell, low first, by one read.
+#[inline(always)]
+fn word_in(bytes: &[u8]) -> u32
+    requires { length bytes.now ≡ 4 }
+    ensures { result ≡ number_of bytes.now }
+{
+    u32::from_le_bytes([bytes[0], bytes[1], bytes[2], bytes[3]])
 }
 
 impl ProcessMemory {
@@ -188,6 +197,32 @@ impl ProcessMemory {
         Some(u64::from(low) + high * 256)
     }
 
+    /// The word at pc; none where one of its four bytes isn't mapped or lacks EXEC.
+    pub fn word_at(&self, pc: u64) -> Option<u32>
+        ensures { result ≡ fetched
+            (cells_of (memory_in self.now.objects.items) self.now.maps) pc }
+    {
+        match self.part(EXEC, pc, 4) {
+            Some(bytes) => if bytes.len() == 4 {
+                Some(word_in(bytes))
+            } else {
+                self.word_across(pc)
+            },
+            None => None,
+        }
+    }
+
+    // The same, byte by byte, since no mapping has all of them.
+    fn word_across(&self, pc: u64) -> Option<u32>
+        ensures { result ≡ fetched
+            (cells_of (memory_in self.now.objects.items) self.now.maps) pc }
+    {
+        match self.number_across(EXEC, pc, 4) {
+            Some(word) => Some(word as u32),
+            None => None,
+        }
+    }
+
     // Stores bytes at a mapped of a mapping that has all of them.
     fn land(&mut self, mapped: MappedByte, new: &[u8])
         requires within { mapped.object < length (memory_in self.old.objects.items) }
@@ -296,14 +331,11 @@ impl Space for ProcessMemory {
     ghost all_private = { λ s address. cells_private (memory_in s.objects.items) s.maps s.fits
         address };
 
-    fn fetch(&self, pc: u64) -> Option<u32> {
-        match self.number(EXEC, pc, 4) {
-            Some(word) => Some(word as u32),
-            None => None,
-        }
+    fn fetch(&mut self, pc: u64) -> Option<u32> {
+        self.word_at(pc)
     }
 
-    fn load(&self, address: u64, n: u8) -> Option<u64> {
+    fn load(&mut self, address: u64, n: u8) -> Option<u64> {
         self.number(READ, address, n)
     }
 

@@ -6,25 +6,12 @@ ghost use Rattle.group_defs.specs.Standing.{Standing};
 ghost use Rattle.group_defs.specs.Step.{is_local, is_waiting};
 ghost use Rattle.run_defs.specs.Turns.{IsTurn, turned};
 ghost use Rattle.group_kernel.specs.Engine.{group_in, state_in, IsRunnable};
-ghost use Rattle.group_kernel.specs.Turning.{HasStepped, IsTried};
+ghost use Rattle.group_kernel.specs.Turning.{HasStepped};
 
 use crate::calls::{is_waiting, other_step};
 use crate::engine_group::EngineGroup;
 use lists::NoMemory;
-use rv64_core::{Local, local_step};
-
-/// One step of the process where that is local: whether it was made.
-fn step_if_local(g: &mut EngineGroup) -> Result<bool, NoMemory>
-    requires running { IsTrue g.old.running }
-    requires runnable { IsRunnable (group_in g.old) }
-    ensures { IfOk result (IsTried g.old g.new) }
-{
-    match local_step(&mut g.regs, &mut g.memory) {
-        Local::Stepped => Ok(true),
-        Local::Shared => Ok(false),
-        Local::NoMemory => Err(NoMemory),
-    }
-}
+use rv64_core::Local;
 
 /// Up to `quantum` local steps: how many were made.
 fn local_steps(g: &mut EngineGroup, quantum: u32) -> Result<u32, NoMemory>
@@ -35,12 +22,12 @@ fn local_steps(g: &mut EngineGroup, quantum: u32) -> Result<u32, NoMemory>
     ensures stops { IfOk result (λ n. n < quantum
         → is_local (group_in g.new) g.new.fixed.pid ≡ false) }
 {
-    for n in 0..quantum {
-        if !step_if_local(g)? {
-            return Ok(n);
-        }
+    let (made, why) = rv64_core::local_steps(&mut g.regs, &mut g.memory, &mut g.decoded, quantum);
+    match why {
+        Local::Stepped => Ok(made),
+        Local::Shared => Ok(made),
+        Local::NoMemory => Err(NoMemory),
     }
-    Ok(quantum)
 }
 
 /// A turn of the process: up to `quantum` local steps, and one more step where there were fewer.

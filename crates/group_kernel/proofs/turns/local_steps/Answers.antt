@@ -1,14 +1,18 @@
-use Rattle.group_kernel.proofs.TurnLaws.{none_stepped, stepped_no_more, stepped_on, stops_there}
+use Rattle.group_kernel.proofs.LocalLaws.{shared_ends, stepped_in, stops_in}
 use Rattle.group_kernel.proofs.turns.local_steps.Goals as goal
 
-pub loop-n-init : goal.loop-n-init
-loop-n-init c = none_stepped c.args.g.now c.requires.running c.requires.runnable
+pub returns-in-Stepped-clause-stepped : goal.returns-in-Stepped-clause-stepped
+returns-in-Stepped-clause-stepped c =
+    let left = c.local_steps-made.new in
+    stepped_in c.args.g.now c.requires.running c.requires.runnable left.regs left.space left.cache _ _ c.local_steps-made.ensures.after
 
-pub loop-n-preserved : goal.loop-n-preserved
-loop-n-preserved c = stepped_on c.args.g.now c.loop-n.g c.step_if_local.new.g c.loop-n.n c.loop-n.invariant c.in_ok-step_if_local.field-0 c.if-not-branch.false c.in_ok-step_if_local.ensures
+pub returns-in-Shared-clause-stepped : goal.returns-in-Shared-clause-stepped
+returns-in-Shared-clause-stepped c =
+    let left = c.local_steps-made.new in
+    stepped_in c.args.g.now c.requires.running c.requires.runnable left.regs left.space left.cache _ _ c.local_steps-made.ensures.after
 
-pub returns-then-not-branch-clause-stepped : goal.returns-then-not-branch-clause-stepped
-returns-then-not-branch-clause-stepped c = stepped_no_more c.args.g.now c.loop-n.g c.step_if_local.new.g c.loop-n.n c.loop-n.invariant c.in_ok-step_if_local.field-0 c.if-not-branch.true c.in_ok-step_if_local.ensures
-
-pub returns-then-not-branch-clause-stops : goal.returns-then-not-branch-clause-stops
-returns-then-not-branch-clause-stops c = λ _. stops_there c.loop-n.g c.step_if_local.new.g c.in_ok-step_if_local.field-0 c.if-not-branch.true c.in_ok-step_if_local.ensures
+pub returns-in-Shared-clause-stops : goal.returns-in-Shared-clause-stops
+returns-in-Shared-clause-stops c =
+    let left = c.local_steps-made.new in
+    let stepped = stepped_in c.args.g.now c.requires.running c.requires.runnable left.regs left.space left.cache _ _ c.local_steps-made.ensures.after in
+    λ _. stops_in c.args.g.now c.requires.running c.requires.runnable left.regs left.space left.cache stepped.runnable (shared_ends _ _ _ _ c.in-Shared.is c.local_steps-made.ensures.ends)
