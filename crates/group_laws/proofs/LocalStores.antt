@@ -29,12 +29,12 @@ use Rattle.rv64_isa.specs.declared.act.Act.TheVariants.{Sets, Jumps, Loads, Stor
 use Rattle.rv64_isa.specs.declared.regs.Regs.{Regs}
 
 -- a mapping that is private, where there is one
-abbrev IsOwn : Option Mapping → Type 0
+abbrev pub IsOwn : Option Mapping → Type 0
 IsOwn None = Unit {0}
 IsOwn (Some m) = m.shared ≡ false
 
 -- n addresses from one on lie in such mappings
-abbrev AreOwn : List Mapping → ℕ → ℕ → Type 0
+abbrev pub AreOwn : List Mapping → ℕ → ℕ → Type 0
 AreOwn maps a zero = Unit {0}
 AreOwn maps a (suc n) = IsOwn (mapping_at maps (wrapped a)) × AreOwn maps (a + 1) n
 
@@ -63,7 +63,7 @@ writable_own memory maps a (suc n) e =
     own (Some m) e = by_shared (cell_in memory (wrapped a) m) m.shared e
 
 -- What an effect stores lies there.
-abbrev StoresOwn : List Mapping → Effect → Type 0
+abbrev pub StoresOwn : List Mapping → Effect → Type 0
 StoresOwn maps (steps r None) = Unit {0}
 StoresOwn maps (steps r (Some w)) = AreOwn maps w.address (length w.bytes)
 StoresOwn maps calls = Unit {0}
@@ -97,7 +97,7 @@ module _ (memory : List (ℕ × List ℕ)) (maps : List Mapping) (r : Regs) wher
   act_own Calls = tt
   act_own (Traps code) = tt
 
-  instruction_own : StoresOwn maps (instruction cells r)
+  pub instruction_own : StoresOwn maps (instruction cells r)
   instruction_own = by_word (fetched cells r.pc)
     where
       by_word : (o : Option ℕ) → StoresOwn maps (effect_of_word cells r o)

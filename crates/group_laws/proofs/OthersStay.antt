@@ -35,7 +35,7 @@ abbrev pub IsKept : ℕ → ℕ → Proc → Group → Type 0
 IsKept pid other x h = (y : Proc) × (find (is_runner other) h.frame.procs ≡ Some y) × IsSame pid x y
 
 -- who runs under one pid doesn't run under another
-not_both : (mine other : ℕ) (y : Proc) → (mine == other) ≡ false → is_runner other y ≡ true → is_runner mine y ≡ false
+pub not_both : (mine other : ℕ) (y : Proc) → (mine == other) ≡ false → is_runner other y ≡ true → is_runner mine y ≡ false
 not_both mine other y differ hit = by_test (is_runner mine y) refl
   where
     by_test : (b : Bool) → is_runner mine y ≡ b → b ≡ false

@@ -1,22 +1,22 @@
 -- Local steps keep a group valid, however near its numbers are to their types' ends.
-use Rattle.std.proofs.Common.{Bool, List, None, Option, Some, [], ap, false, refl, subst, suc, sym, true, zero, ℕ, ◌∙◌, ◌≡◌}
+use Rattle.std.proofs.Common.{Bool, None, Option, Some, ap, false, refl, subst, suc, sym, true, zero, ℕ, ◌∙◌, ◌≡◌}
 use Rattle.std.proofs.lemmas.Bool.{false≢true}
 use Rattle.std.specs.Prelude.{IsTrue, find}
 use Rattle.group_defs.specs.Cells.{sight}
 use Rattle.group_defs.specs.Group.{Group, is_runner, regs_of, runner}
 use Rattle.group_defs.specs.Standing.{State, is_durable}
-use Rattle.group_defs.specs.Step.{after_effect, do_step, effect_in, group_step, is_local, is_local_at}
+use Rattle.group_defs.specs.Step.{after_effect, effect_in, group_step, is_local, is_local_at}
 use Rattle.group_defs.specs.Valid.{GroupIsValid}
 use Rattle.group_defs.specs.declared.frame.Proc.{Proc}
 use Rattle.group_laws.proofs.InstructionLaws.{EffectFits, instruction_fits}
 use Rattle.group_laws.proofs.OthersStay.{step_is}
 use Rattle.group_laws.proofs.ReplyLaws.{found_pid, goes_on, maps_no_file}
 use Rattle.group_laws.proofs.StoreLaws.{written_valid}
+use Rattle.group_parts.proofs.States.{step_group}
 use Rattle.run_defs.specs.Turns.{AllLocal, steps_of}
-use Rattle.run_laws.proofs.TurnLaws.{step_cases}
-use Rattle.rv64_isa.specs.Instruction.{Effect, calls, instruction, is_step, list_of, steps, traps}
+use Rattle.rv64_isa.specs.Instruction.{Effect, calls, is_step, list_of, steps, traps}
 use Rattle.rv64_isa.specs.LocalLaws.{local_is_step}
-use Rattle.rv64_isa.specs.Memory.{private_cells, stored}
+use Rattle.rv64_isa.specs.Memory.{stored}
 
 local_step_valid : (durable : Bool) (g : Group) (pid : ℕ) → GroupIsValid g → IsTrue (is_local g pid) → GroupIsValid (group_step durable g pid)
 unfolding is_local runner
@@ -38,4 +38,4 @@ unfolding steps_of AllLocal
 local_steps_valid s pid zero valid all = valid
 local_steps_valid s pid (suc n) valid all =
     let before : GroupIsValid (steps_of s pid n).group = local_steps_valid s pid n valid all.0 in
-    step_cases (λ t. GroupIsValid t.group) (steps_of s pid n) pid before (local_step_valid (is_durable (steps_of s pid n).standing pid) (steps_of s pid n).group pid before all.1)
+    subst GroupIsValid (sym (step_group (steps_of s pid n) pid)) (local_step_valid (is_durable (steps_of s pid n).standing pid) (steps_of s pid n).group pid before all.1)

@@ -1,5 +1,5 @@
 -- Those objects of a table whose numbers pass a test, after stores, and after objects come and go.
-use Rattle.std.proofs.Common.{Bool, List, None, Option, Some, [], ap, arith, false, length, refl, sym, true, ℕ, ◌++◌, ◌+◌, ◌==◌, ◌∙◌, ◌∷◌, ◌≡◌, ◌⊎◌, inl, inr}
+use Rattle.std.proofs.Common.{Bool, List, None, Option, Some, [], ap, false, refl, sym, true, ℕ, ◌++◌, ◌+◌, ◌==◌, ◌∙◌, ◌∷◌, ◌≡◌, ◌⊎◌, inl, inr}
 use Rattle.std.proofs.lemmas.Bool.{cases_Bool, eq-eqb, eqb-true}
 use Rattle.std.proofs.lemmas.List.{append-nil}
 use Rattle.std.proofs.lemmas.List.Elements.{filter-append}
@@ -9,7 +9,7 @@ use Rattle.address_maps.specs.Mappings.{has, mapping_at}
 use Rattle.address_maps.specs.declared.maps.Mapping.{Mapping}
 use Rattle.group_defs.specs.Cells.{object_place, with_byte_at, with_stored, with_writes}
 use Rattle.group_laws.proofs.Lists.{any_weaker, filter_none, found_is, true_any}
-use Rattle.rv64_isa.specs.Memory.{Write, stored}
+use Rattle.rv64_isa.specs.Memory.{Write}
 use Rattle.rv64_isa.specs.Numbers.{wrapped}
 use Rattle.tables.specs.Lists.{on_first}
 

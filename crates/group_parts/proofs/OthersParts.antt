@@ -1,6 +1,6 @@
 -- What a step of one process, and every call, leaves of the private part of another: all of it.
-use Rattle.std.proofs.Common.{Bool, List, None, Option, Some, [], ap, arith, false, length, map, refl, subst, sym, true, ℕ, ◌*◌, ◌+◌, ◌<◌, ◌==◌, ◌||◌, ◌∙◌, ◌∷◌, ◌≡◌, ◌≤◌}
-use Rattle.std.proofs.lemmas.Bool.{eq-eqb, eqb-true, false≢true}
+use Rattle.std.proofs.Common.{Bool, List, None, Option, Some, [], ap, arith, false, length, map, refl, subst, true, ℕ, ◌*◌, ◌+◌, ◌<◌, ◌==◌, ◌||◌, ◌∙◌, ◌∷◌, ◌≡◌, ◌≤◌}
+use Rattle.std.proofs.lemmas.Bool.{eq-eqb, eqb-true}
 use Rattle.std.proofs.lemmas.List.Elements.{All-cons, All-map, All-nil, All-weaker}
 use Rattle.std.specs.List.{filter_map, list_any}
 use Rattle.std.specs.Option.{option_map}
@@ -190,7 +190,7 @@ module _ (durable : Bool) (g : Group) (p : Proc) (other : ℕ) (x : Proc) (diffe
   effect_stays (traps status) = end_stays status
 
 -- A part is made of what these laws say stays.
-abbrev parts : Proc → Memory → PrivatePart
+abbrev pub parts : Proc → Memory → PrivatePart
 parts p memory = record { regs = regs_of p; maps = p.maps; memory = memory }
 
 same_part : (g h : Group) (other : ℕ) (x y : Proc) → runner h other ≡ Some y → y ≡ record x { parent = y.parent } → kept_in (maps_privately x.maps) h.memory ≡ kept_in (maps_privately x.maps) g.memory → part_of h other ≡ Some (part_in g x)

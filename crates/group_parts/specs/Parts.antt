@@ -34,15 +34,18 @@ shared_mappings maps = filter (λ m. m.shared) maps
 abbrev pub public_process : Proc → Proc
 public_process p = if is_running p then record p { pc = 0; regs = []; maps = shared_mappings p.maps } else p
 
--- whether one of these processes maps the object privately
+-- whether one of these processes maps the object privately, or none does
 abbrev pub is_private : List Proc → ℕ → Bool
 is_private procs number = list_any (λ p. maps_privately p.maps number) procs
+
+abbrev pub is_public : List Proc → ℕ → Bool
+is_public procs number = not (is_private procs number)
 
 -- All else of a group: its processes without their private parts, its tables, and the objects that nobody maps privately.
 unfoldable pub public_part : Group → Group
 public_part g = record {
   frame = record g.frame { procs = map public_process g.frame.procs };
-  memory = filter (λ o. not (is_private g.frame.procs o.0)) g.memory;
+  memory = filter (λ o. is_public g.frame.procs o.0) g.memory;
 }
 
 -- No running process maps an object that another running process maps privately.

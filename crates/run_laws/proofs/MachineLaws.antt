@@ -36,6 +36,12 @@ module _ (Meets : Progress → Mark → Type 0) (quantum : ℕ) where
   each_keeps P keeps r [] e p = p
   each_keeps P keeps r (m ∷ ms) e p = each_keeps P keeps (after_mark quantum r m) ms e.1 (keeps r m e.0 p)
 
+  -- and it holds where each of them stands
+  pub each_with : (P : Progress → Type 0) → ((r : Progress) (m : Mark) → Meets r m → P r → P (after_mark quantum r m)) → (r : Progress) (marks : List Mark) → EachMark Meets quantum r marks → P r → EachMark (λ q m. P q × Meets q m) quantum r marks
+  unfolding EachMark
+  each_with P keeps r [] e p = tt
+  each_with P keeps r (m ∷ ms) e p = ((p, e.0), each_with P keeps (after_mark quantum r m) ms e.1 (keeps r m e.0 p))
+
 pub each_weaker : (quantum : ℕ) (P Q : Progress → Mark → Type 0) → ((r : Progress) (m : Mark) → P r m → Q r m) → (r : Progress) (marks : List Mark) → EachMark P quantum r marks → EachMark Q quantum r marks
 unfolding EachMark
 each_weaker quantum P Q f r [] e = tt

@@ -1,5 +1,5 @@
 -- Over a run the group stays valid, and its numbers far from their types' ends: at most 1,000,000 turns of at most 100,000 steps.
-use Rattle.std.proofs.Common.{◌≡◌, ℕ, zero, suc, ◌+◌, ◌*◌, ◌^◌, ◌<◌, ◌≤◌, Bool, true, false, ◌==◌, List, refl, arith}
+use Rattle.std.proofs.Common.{◌≡◌, ℕ, zero, suc, ◌+◌, ◌*◌, ◌^◌, ◌<◌, ◌≤◌, Bool, true, false, ◌==◌, List, ◌++◌, refl, arith}
 use Rattle.std.specs.Prelude.{if◌then◌else◌}
 use Rattle.std.proofs.lemmas.Bool.{eqb-false}
 use Rattle.group_defs.specs.Group.{Group}
@@ -13,10 +13,10 @@ use Rattle.group_laws.proofs.RiseLaws.{step_rises}
 use Rattle.group_laws.proofs.ValidSteps.{step_valid}
 use Rattle.group_laws.specs.Fresh.{IsFresh}
 use Rattle.run_laws.proofs.LegalLaws.{begins_in_order, order_kept}
-use Rattle.run_laws.proofs.MachineLaws.{each_keeps}
+use Rattle.run_laws.proofs.MachineLaws.{each_keeps, each_split, each_weaker, each_with}
 use Rattle.run_defs.specs.Legal.{Allowed, Legal}
 use Rattle.run_defs.specs.Limits.{LimitsFit}
-use Rattle.run_defs.specs.Progress.{Progress, after_mark, progress_after, progress_at}
+use Rattle.run_defs.specs.Progress.{EachMark, Progress, after_mark, progress_after, progress_at}
 use Rattle.run_defs.specs.Turns.{steps_in, steps_of}
 use Rattle.run_laws.specs.Order.{IsInOrder}
 use Rattle.run_defs.specs.declared.run.Limits.{Limits}
@@ -95,6 +95,14 @@ module _ (limits : Limits) (origin : ℕ) (small : LimitsFit limits) where
       (order_kept limits origin r (Barrier epoch) a o, record { valid = barrier_valid r.state epoch at.valid; object = x; descr = y; pipe = z; pair = u; position = omega (arith, w, same) })
   good_kept r (Fetch epoch) a (o, at) = (order_kept limits origin r (Fetch epoch) a o, at)
   good_kept r (Ack epoch) a (o, at) = (order_kept limits origin r (Ack epoch) a o, at)
+
+  -- each further mark is allowed where it stands, and the group is valid there
+  pub each_in_valid : (g : Group) (before marks : List Mark) → GroupIsValid g → HasUnwornNumbers g.frame → Legal g origin limits (before ++ marks) → EachMark (λ r m. GroupIsValid r.state.group × Allowed limits r m) limits.quantum (progress_after limits.quantum (progress_at origin g) before) marks
+  each_in_valid g before marks v unworn legal =
+      let halves = each_split (Allowed limits) limits.quantum (progress_at origin g) before marks legal in
+      let here : IsGood (progress_after limits.quantum (progress_at origin g) before) = each_keeps (Allowed limits) limits.quantum IsGood good_kept (progress_at origin g) before halves.0 (begins_in_order limits origin g, origin_after g v unworn) in
+      each_weaker limits.quantum (λ r m. IsGood r × Allowed limits r m) (λ r m. GroupIsValid r.state.group × Allowed limits r m) (λ r m both. (both.0.1.valid, both.1)) (progress_after limits.quantum (progress_at origin g) before) marks
+      (each_with (Allowed limits) limits.quantum IsGood good_kept (progress_after limits.quantum (progress_at origin g) before) marks halves.1 here)
 
   module _ (g : Group) (v : GroupIsValid g) (unworn : HasUnwornNumbers g.frame) (marks : List Mark) (legal : Legal g origin limits marks) where
     abbrev here : Progress

@@ -22,7 +22,7 @@ ghost use Rattle.run_laws.specs.Counts.{IsCounted, did_something};
 ghost use Rattle.run_defs.specs.Ends.{HasEnded, IsDone};
 ghost use Rattle.run_defs.specs.Legal.{AckAllowed, Allowed, FetchAllowed, Legal, has_moved, ready};
 ghost use Rattle.run_defs.specs.Limits.{LimitsFit};
-ghost use Rattle.run_defs.specs.Progress.{Progress, after_mark, appended, checkpoint, checkpoint_of, group_of_epoch, is_lease, progress_after, progress_at};
+ghost use Rattle.run_defs.specs.Progress.{EachMark, Progress, after_mark, appended, checkpoint, checkpoint_of, group_of_epoch, is_lease, progress_after, progress_at};
 ghost use Rattle.run_laws.specs.Leases.{AreDistinct, AreOfRunning};
 ghost use Rattle.run_laws.specs.Order.{IsInOrder, Follows};
 ghost use Rattle.run_laws.specs.Smallest.{default_limits, exits_at_once, exit_trace, says_hi, hi_trace, asks_in_vain, family, family_left, two_processes, two_workers, two_workers_trace};
@@ -302,4 +302,10 @@ pub fn runs_keep_validity()
         → (pid n : ℕ) → n ≤ limits.quantum
         → let s = (progress_after limits.quantum (progress_at origin_epoch start) marks).state in
         GroupIsValid (steps_of s pid n).group × IsFresh (steps_of s pid n).group }
+    // each further mark is allowed where it stands, and the group is valid there
+    ensures each { (limits : Limits) (origin : ℕ) (start : Group) (before marks : List Mark)
+        → LimitsFit limits → GroupIsValid start → HasUnwornNumbers start.frame
+        → Legal start origin limits (before ++ marks)
+        → EachMark (λ r m. GroupIsValid r.state.group × Allowed limits r m) limits.quantum
+        (progress_after limits.quantum (progress_at origin start) before) marks }
 {}
