@@ -303,9 +303,9 @@ pub fn runs_keep_validity()
         → let s = (progress_after limits.quantum (progress_at origin_epoch start) marks).state in
         GroupIsValid (steps_of s pid n).group × IsFresh (steps_of s pid n).group }
     // each further mark is allowed where it stands, and the group is valid there
-    ensures each { (limits : Limits) (origin : ℕ) (start : Group) (before marks : List Mark)
+    ensures each { (limits : Limits) (origin_epoch : ℕ) (start : Group) (before marks : List Mark)
         → LimitsFit limits → GroupIsValid start → HasUnwornNumbers start.frame
-        → Legal start origin limits (before ++ marks)
+        → Legal start origin_epoch limits (before ++ marks)
         → EachMark (λ r m. GroupIsValid r.state.group × Allowed limits r m) limits.quantum
-        (progress_after limits.quantum (progress_at origin start) before) marks }
+        (progress_after limits.quantum (progress_at origin_epoch start) before) marks }
 {}
