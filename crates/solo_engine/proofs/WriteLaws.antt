@@ -185,7 +185,7 @@ module _ (run : RunSoFar) (a : AckMark) (c : WholeCommit) where
   one_commit count reading (b ∷ acks) (d ∷ commits) are is = (
     are.0,
     one_commit count (option_map (λ r. image_after r d) reading) acks commits are.1
-    (subst (λ (o : Option (List ℕ)). IsCommitOf run count o a.epoch c) (sym (map_then (λ r. image_after r d) (images_after commits) (images_after (d ∷ commits)) (λ r. refl) reading)) is),
+        (subst (λ (o : Option (List ℕ)). IsCommitOf run count o a.epoch c) (sym (map_then (λ r. image_after r d) (images_after commits) (images_after (d ∷ commits)) (λ r. refl) reading)) is),
   )
 
   none_after : (mid after : DiskView) → AddsCommit c.blocks c.body mid after → HasNoneBegun mid → HasNoneBegun after
