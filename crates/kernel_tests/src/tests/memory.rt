@@ -57,7 +57,7 @@ fn sample(alloc: Global) -> Result<ProcessMemory, NoMemory> {
 
 #[test]
 fn each_mapping_shows_its_part(rt: HostRuntime) -> Result<(), Fail> {
-    let memory = sample(rt.alloc())?;
+    let mut memory = sample(rt.alloc())?;
     assert_eq!(rt; memory.load(0x1000, 2), Some(0x0b0b));
     assert_eq!(rt; memory.load(0x4ffe, 4), Some(0x0b0b_0a0a));
     assert_eq!(rt; memory.load(0x1ffe, 4), Some(0x1414_0b0b));

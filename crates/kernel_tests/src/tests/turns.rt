@@ -7,7 +7,7 @@ ghost use Rattle.group_kernel.specs.Memory.{memory_in};
 use group_defs::{Mapping, Next, ObjectRec, Open, OpenKind, Out};
 use group_kernel::{EngineGroup, Fixed, ProcessMemory, is_ready, turn};
 use lists::{NoMemory, Seq};
-use rv64_core::Regs;
+use rv64_core::{DecodeCache, Regs};
 use std::alloc::Global;
 use std::test::Fail;
 
@@ -137,6 +137,7 @@ fn process(alloc: Global, program: &[u32]) -> Result<EngineGroup, NoMemory>
             mark: 0,
             bytes: Seq::new(alloc),
         },
+        decoded: DecodeCache::new(alloc)?,
     })
 }
 
