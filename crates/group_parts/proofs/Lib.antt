@@ -6,3 +6,7 @@ pub mod LocalValid
 pub mod MarksParts
 pub mod LocalSteps
 pub mod LocalPages
+pub mod LeaseLists
+pub mod LeaseSteps
+pub mod OthersPages
+pub mod Commute

@@ -23,7 +23,7 @@ module _ (s : State) (pid other : ℕ) (part : PrivatePart) (valid : GroupIsVali
   unfolding steps_of
   one_more n all before = ap (λ g. part_of g other) (step_group (steps_of s pid n) pid) ∙ steps_leave_parts (is_durable (steps_of s pid n).standing pid) (steps_of s pid n).group pid other part (local_steps_valid s pid n valid all) differ before
 
-  local_leaves : (n : ℕ) → AllLocal s pid n → part_of (steps_of s pid n).group other ≡ Some part
+  pub local_leaves : (n : ℕ) → AllLocal s pid n → part_of (steps_of s pid n).group other ≡ Some part
   unfolding steps_of AllLocal
   local_leaves zero all = is
   local_leaves (suc n) all = one_more n all.0 (local_leaves n all.0)

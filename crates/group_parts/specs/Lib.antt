@@ -1,3 +1,4 @@
 pub mod Parts
 pub mod Local
 pub mod Marks
+pub mod Leases

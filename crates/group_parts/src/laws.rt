@@ -1,17 +1,18 @@
 //! What holds of a group's parts, whatever the group.
 
-ghost use Rattle.std.specs.Prelude.{◌≡◌, ◌↔◌, ◌==◌, ◌++◌, ℕ, Bool, List, Some, false};
+ghost use Rattle.std.specs.Prelude.{◌≡◌, ◌↔◌, ◌==◌, ◌+◌, ◌++◌, ℕ, Bool, IsTrue, List, Some, false};
 ghost use Rattle.std.specs.List.{list_any};
 ghost use Rattle.group_defs.specs.Group.{Group, runner};
 ghost use Rattle.group_defs.specs.Standing.{State};
 ghost use Rattle.group_defs.specs.Step.{after_reply, call_in, group_step, is_local};
 ghost use Rattle.group_defs.specs.Valid.{GroupIsValid};
 ghost use Rattle.group_defs.specs.declared.frame.Proc.{Proc};
+ghost use Rattle.group_parts.specs.Leases.{IsLeaseOf, LeasesStand, LeavesLease};
 ghost use Rattle.group_parts.specs.Local.{AllLocalPart, OnlyPartChanges, is_local_part, local_steps, pages_of_steps};
-ghost use Rattle.group_parts.specs.Marks.{AreAllowed, is_turn_of};
+ghost use Rattle.group_parts.specs.Marks.{AreAllowed, is_turn_by, is_turn_of};
 ghost use Rattle.group_parts.specs.Parts.{IsApart, PrivatePart, part_of};
 ghost use Rattle.run_defs.specs.Legal.{Allowed};
-ghost use Rattle.run_defs.specs.Progress.{Progress, after_mark, progress_after};
+ghost use Rattle.run_defs.specs.Progress.{Progress, after_mark, is_lease, progress_after, progress_at};
 ghost use Rattle.run_defs.specs.Touched.{touched_with_steps};
 ghost use Rattle.run_defs.specs.Turns.{AllLocal, steps_of};
 ghost use Rattle.run_defs.specs.declared.run.Limits.{Limits};
@@ -60,4 +61,31 @@ pub fn local_steps_are_of_the_part()
     ensures touched { (s : State) (pid : ℕ) (part : PrivatePart) (n : ℕ) (so_far : List (ℕ × ℕ))
         → IsApart s.group → part_of s.group pid ≡ Some part → AllLocalPart part n
         → touched_with_steps s pid n so_far ≡ so_far ++ pages_of_steps part n }
+{}
+
+/// A lease commutes with what others do: its part is what its local steps make of its process's private part in the present
+/// group, from the Take on, after each run of local steps, and after any marks that aren't its worker's Turn. These leave the
+/// lease out, touch no page of an object that it maps privately, and make no barrier.
+pub fn leases_commute()
+    ensures begins { (g : Group) (pid : ℕ) (part : PrivatePart) → part_of g pid ≡ Some part
+        → IsLeaseOf g pid 0 part }
+    ensures runs { (g : Group) (pid done more : ℕ) (part : PrivatePart)
+        → IsLeaseOf g pid done part → AllLocalPart part more
+        → IsLeaseOf g pid (done + more) (local_steps part more) }
+    ensures pages { (part : PrivatePart) (done more : ℕ) → pages_of_steps part (done + more)
+        ≡ pages_of_steps part done ++ pages_of_steps (local_steps part done) more }
+    ensures found { (limits : Limits) (r : Progress) (marks : List Mark) (worker pid done : ℕ)
+        (part : PrivatePart) → AreAllowed limits r marks → LeasesStand r
+        → IsTrue (list_any (is_lease worker pid) r.leases)
+        → list_any (is_turn_by worker) marks ≡ false → IsLeaseOf r.state.group pid done part
+        → LeavesLease r (progress_after limits.quantum r marks) worker pid done part }
+{}
+
+/// What stands of the leases that are out: no process has two, and one that hasn't moved is of a process that doesn't wait.
+/// So it is at the start, and after each mark that is allowed.
+pub fn leases_stand()
+    ensures start { (origin : ℕ) (g : Group) → LeasesStand (progress_at origin g) }
+    ensures marks { (limits : Limits) (r : Progress) (marks : List Mark)
+        → AreAllowed limits r marks → LeasesStand r
+        → LeasesStand (progress_after limits.quantum r marks) }
 {}

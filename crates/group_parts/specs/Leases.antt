@@ -1,0 +1,40 @@
+-- Leases: what a lease's part is in the group, and what stands of the leases that are out.
+use Rattle.std.specs.Prelude.{◌≡◌, ◌⊎◌, ℕ, true, false, IsTrue, Some, List, [], ◌∷◌, All, ⊤}
+use Rattle.std.specs.List.{list_any}
+use Rattle.group_defs.specs.Fork.{maps_privately}
+use Rattle.group_defs.specs.Group.{Group}
+use Rattle.group_defs.specs.Pages.{is_among}
+use Rattle.group_defs.specs.Step.{is_waiting}
+use Rattle.group_parts.specs.Local.{AllLocalPart, local_steps}
+use Rattle.group_parts.specs.Parts.{PrivatePart, part_of}
+use Rattle.run_defs.specs.Legal.{is_unleased}
+use Rattle.run_defs.specs.Progress.{Lease, Progress, is_lease}
+
+-- A lease's part is what so many local steps make of its process's private part in the group.
+pub record IsLeaseOf (g : Group) (pid done : ℕ) (part : PrivatePart) : Type 0 where
+  pub taken : PrivatePart
+  pub taken_is : part_of g pid ≡ Some taken
+  pub all_local : AllLocalPart taken done
+  pub part_is : part ≡ local_steps taken done
+
+-- no process has two leases
+abbrev pub LeasedOnce : List Lease → Type 0
+LeasedOnce [] = ⊤
+LeasedOnce (l ∷ ls) = (is_unleased ls l.pid ≡ true) × LeasedOnce ls
+
+-- A lease has moved, or its process doesn't wait.
+abbrev pub MayEnd : Progress → Lease → Type 0
+MayEnd r l = (l.moved ≡ true) ⊎ (is_waiting r.state l.pid ≡ false)
+
+-- what stands of the leases that are out
+pub record LeasesStand (r : Progress) : Type 0 where
+  pub once : LeasedOnce r.leases
+  pub may_end : All (MayEnd r) r.leases
+
+-- From r to r' this lease is still out, and its part is still one of its process in the group; no page of an object that it maps
+-- privately was touched, and no barrier was made.
+pub record LeavesLease (r r' : Progress) (worker pid done : ℕ) (part : PrivatePart) : Type 0 where
+  pub lease : IsLeaseOf r'.state.group pid done part
+  pub out : IsTrue (list_any (is_lease worker pid) r'.leases)
+  pub touched : (object page : ℕ) → maps_privately part.maps object ≡ true → is_among r'.touched (object, page) ≡ is_among r.touched (object, page)
+  pub checkpoints : r'.checkpoints ≡ r.checkpoints
