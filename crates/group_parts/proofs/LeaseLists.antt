@@ -24,23 +24,23 @@ or_true : (b : Bool) → (b || true) ≡ true
 or_true true = refl
 or_true false = refl
 
-not_true : (b : Bool) → not b ≡ true → b ≡ false
+pub not_true : (b : Bool) → not b ≡ true → b ≡ false
 not_true true e = absurd (false≢true e)
 not_true false e = refl
 
 -- the leases after a Turn: those that are left, with what it did
-abbrev with_did : Bool → Lease → Lease
+abbrev pub with_did : Bool → Lease → Lease
 with_did did l = record l { moved = did || l.moved }
 
-abbrev left : ℕ → ℕ → List Lease → List Lease
+abbrev pub left : ℕ → ℕ → List Lease → List Lease
 left worker pid leases = filter (λ l. not (is_lease worker pid l)) leases
 
-alike : (t : Lease → Bool) (did : Bool) (leases : List Lease) → ((l : Lease) → t (with_did did l) ≡ t l) → list_any t (map (with_did did) leases) ≡ list_any t leases
+pub alike : (t : Lease → Bool) (did : Bool) (leases : List Lease) → ((l : Lease) → t (with_did did l) ≡ t l) → list_any t (map (with_did did) leases) ≡ list_any t leases
 alike t did [] same = refl
 alike t did (l ∷ ls) same = ap (λ (b : Bool). b || list_any t (map (with_did did) ls)) (same l) ∙ ap (λ (b : Bool). t l || b) (alike t did ls same)
 
 -- one that has none has none after another's Turn
-still_unleased : (leases : List Lease) (worker pid q : ℕ) → is_unleased leases q ≡ true → is_unleased (left worker pid leases) q ≡ true
+pub still_unleased : (leases : List Lease) (worker pid q : ℕ) → is_unleased leases q ≡ true → is_unleased (left worker pid leases) q ≡ true
 still_unleased [] worker pid q free = refl
 still_unleased (l ∷ ls) worker pid q free =
     let parts = or_parts (l.pid == q) (list_any (λ x. x.pid == q) ls) (not_true _ free) in

@@ -10,3 +10,8 @@ pub mod LeaseLists
 pub mod LeaseSteps
 pub mod OthersPages
 pub mod Commute
+pub mod Unleased
+pub mod KeptLaws
+pub mod Runners
+pub mod Whole
+pub mod Sight

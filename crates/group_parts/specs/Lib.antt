@@ -2,3 +2,4 @@ pub mod Parts
 pub mod Local
 pub mod Marks
 pub mod Leases
+pub mod Kept

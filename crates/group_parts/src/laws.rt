@@ -1,22 +1,26 @@
 //! What holds of a group's parts, whatever the group.
 
-ghost use Rattle.std.specs.Prelude.{◌≡◌, ◌↔◌, ◌==◌, ◌+◌, ◌++◌, ℕ, Bool, IsTrue, List, Some, false};
+ghost use Rattle.std.specs.Prelude.{◌≡◌, ◌↔◌, ◌⊎◌, ◌<◌, ◌==◌, ◌+◌, ◌++◌, ℕ, Bool, IsTrue, List, [], map, Some, false};
 ghost use Rattle.std.specs.List.{list_any};
+ghost use Rattle.group_defs.specs.Cells.{cells_of, sight};
 ghost use Rattle.group_defs.specs.Group.{Group, runner};
-ghost use Rattle.group_defs.specs.Standing.{State};
-ghost use Rattle.group_defs.specs.Step.{after_reply, call_in, group_step, is_local};
+ghost use Rattle.group_defs.specs.Standing.{State, group_barrier};
+ghost use Rattle.group_defs.specs.Step.{after_reply, call_in, do_step, group_step, is_local};
 ghost use Rattle.group_defs.specs.Valid.{GroupIsValid};
 ghost use Rattle.group_defs.specs.declared.frame.Proc.{Proc};
+ghost use Rattle.group_parts.specs.Kept.{KeptParts, Puts, StandsFor, TakesOut, all_parts, kept_part, with_part};
 ghost use Rattle.group_parts.specs.Leases.{IsLeaseOf, LeasesStand, LeavesLease};
 ghost use Rattle.group_parts.specs.Local.{AllLocalPart, OnlyPartChanges, is_local_part, local_steps, pages_of_steps};
 ghost use Rattle.group_parts.specs.Marks.{AreAllowed, is_turn_by, is_turn_of};
-ghost use Rattle.group_parts.specs.Parts.{IsApart, PrivatePart, part_of};
-ghost use Rattle.run_defs.specs.Legal.{Allowed};
-ghost use Rattle.run_defs.specs.Progress.{Progress, after_mark, is_lease, progress_after, progress_at};
+ghost use Rattle.group_parts.specs.Parts.{IsApart, PrivatePart, part_in, part_of, public_part};
+ghost use Rattle.run_defs.specs.Legal.{Allowed, TakeAllowed, TurnAllowed};
+ghost use Rattle.run_defs.specs.Progress.{Lease, Progress, after_mark, is_lease, leases_after_turn, progress_after, progress_at};
 ghost use Rattle.run_defs.specs.Touched.{touched_with_steps};
-ghost use Rattle.run_defs.specs.Turns.{AllLocal, steps_of};
+ghost use Rattle.run_defs.specs.Turns.{AllLocal, steps_of, turned};
 ghost use Rattle.run_defs.specs.declared.run.Limits.{Limits};
 ghost use Rattle.run_defs.specs.declared.run.Mark.{Mark};
+ghost use Rattle.run_defs.specs.declared.run.Mark.TheVariants.{Take, Turn};
+ghost use Rattle.tables.specs.Rising.{Rise};
 
 /// The frame law: what one process does leaves the private part of every other, which is its registers, its mappings and the
 /// objects that it maps privately. This holds of a step of any kind, its end too, and of every call that is defined; of a mark
@@ -88,4 +92,67 @@ pub fn leases_stand()
     ensures marks { (limits : Limits) (r : Progress) (marks : List Mark)
         → AreAllowed limits r marks → LeasesStand r
         → LeasesStand (progress_after limits.quantum r marks) }
+{}
+
+/// All parts of a group stand for it.
+pub fn starts()
+    ensures { (g : Group) → StandsFor [] (all_parts g) g }
+{}
+
+/// A Take hands out what the group has of its process; what is kept then stands for the same group with one lease more out.
+pub fn takes()
+    ensures stands { (limits : Limits) (r : Progress) (k : KeptParts) (worker pid : ℕ)
+        (here : List (ℕ × PrivatePart)) → StandsFor r.leases k r.state.group
+        → TakesOut k.here here pid
+        → let r' = after_mark limits.quantum r (Take worker pid) in
+        StandsFor r'.leases (record k { here = here }) r'.state.group }
+    ensures lease { (limits : Limits) (r : Progress) (k : KeptParts) (worker pid : ℕ)
+        (part : PrivatePart) → StandsFor r.leases k r.state.group
+        → TakeAllowed limits r worker pid → kept_part k.here pid ≡ Some part
+        → IsLeaseOf r.state.group pid 0 part }
+{}
+
+/// A lease is given back at the quantum, or before a step that isn't local: its Turn is allowed then, also where it did
+/// nothing. At the quantum what is kept with its part stands for the group after the Turn, and its own pages are all that the
+/// Turn touches. Before it the same stands for the group before the step that isn't local, which is part of the Turn.
+pub fn gives()
+    ensures allowed { (limits : Limits) (r : Progress) (worker pid done : ℕ) (part : PrivatePart)
+        → LeasesStand r → IsApart r.state.group
+        → IsTrue (list_any (is_lease worker pid) r.leases) → IsLeaseOf r.state.group pid done part
+        → (done ≡ limits.quantum) ⊎ ((done < limits.quantum) × (is_local_part part ≡ false))
+        → TurnAllowed limits r worker pid done }
+    ensures whole { (limits : Limits) (r : Progress) (worker pid done : ℕ) (part : PrivatePart)
+        (k : KeptParts) (here : List (ℕ × PrivatePart)) → LeasesStand r → IsApart r.state.group
+        → IsTrue (list_any (is_lease worker pid) r.leases) → IsLeaseOf r.state.group pid done part
+        → done ≡ limits.quantum → StandsFor r.leases k r.state.group → Puts k.here here pid part
+        → let r' = after_mark limits.quantum r (Turn worker pid done) in
+        StandsFor r'.leases (record k { here = here }) r'.state.group }
+    ensures touched { (limits : Limits) (r : Progress) (worker pid done : ℕ) (part : PrivatePart)
+        → IsApart r.state.group → (lease : IsLeaseOf r.state.group pid done part)
+        → done ≡ limits.quantum → (after_mark limits.quantum r (Turn worker pid done)).touched
+        ≡ r.touched ++ pages_of_steps lease.taken done }
+    ensures back { (r : Progress) (worker pid done : ℕ) (part : PrivatePart) (k : KeptParts)
+        (here : List (ℕ × PrivatePart)) (did : Bool) → LeasesStand r → IsApart r.state.group
+        → IsTrue (list_any (is_lease worker pid) r.leases) → IsLeaseOf r.state.group pid done part
+        → StandsFor r.leases k r.state.group → Puts k.here here pid part
+        → StandsFor (leases_after_turn worker pid did r.leases) (record k { here = here })
+        (steps_of r.state pid done).group }
+    ensures short { (limits : Limits) (s : State) (pid n : ℕ) → n < limits.quantum
+        → turned limits.quantum s pid n ≡ do_step (steps_of s pid n) pid }
+{}
+
+/// A barrier leaves all but the output. Where no lease is out, the frame that a fetch copies is that of the public part with
+/// the private parts in their processes' rows.
+pub fn barriers_and_fetches()
+    ensures stands { (leases : List Lease) (k : KeptParts) (g : Group) → StandsFor leases k g
+        → StandsFor leases (record k { public = group_barrier k.public }) (group_barrier g) }
+    ensures frame { (g : Group) (k : KeptParts) → StandsFor [] k g
+        → Rise (λ p. p.pid) g.frame.procs → g.frame
+        ≡ record k.public.frame { procs = map (with_part k.here) k.public.frame.procs } }
+{}
+
+/// What a call sees lies in its caller's part and in the public one.
+pub fn calls_by_their_parts()
+    ensures sees { (g : Group) (pid : ℕ) (p : Proc) → GroupIsValid g → runner g pid ≡ Some p
+        → sight g p ≡ cells_of ((part_in g p).memory ++ (public_part g).memory) p.maps }
 {}
