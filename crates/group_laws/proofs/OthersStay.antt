@@ -84,7 +84,7 @@ module _ (p : Proc) (status other : ℕ) (differ : (p.pid == other) ≡ false) w
       by_child true its = (record y { parent = 0 }, rw (miss, its, runs) refl, hit, (refl, inr (refl, eqb-true y.parent p.pid its)))
       by_child false its = (y, rw (miss, its) refl, hit, (refl, inl refl))
 
-  skipped : (y : Proc) (rest : List Proc) → is_runner other y ≡ false → find (is_runner other) (cons_option (after_end p status y) rest) ≡ find (is_runner other) rest
+  pub skipped : (y : Proc) (rest : List Proc) → is_runner other y ≡ false → find (is_runner other) (cons_option (after_end p status y) rest) ≡ find (is_runner other) rest
   skipped y rest miss = by_cases (is_runner p.pid y) (p.parent == 0) (y.parent == p.pid) (is_running y)
     where
       skips : (z : Proc) → is_runner other z ≡ false → find (is_runner other) (z ∷ rest) ≡ find (is_runner other) rest

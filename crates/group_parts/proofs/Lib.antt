@@ -15,3 +15,5 @@ pub mod KeptLaws
 pub mod Runners
 pub mod Whole
 pub mod Sight
+pub mod NoneStarts
+pub mod Served

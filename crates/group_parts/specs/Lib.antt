@@ -3,3 +3,4 @@ pub mod Local
 pub mod Marks
 pub mod Leases
 pub mod Kept
+pub mod Served

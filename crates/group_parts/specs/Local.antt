@@ -6,6 +6,7 @@ use Rattle.group_defs.specs.Pages.{pages_of_writes}
 use Rattle.group_parts.specs.Parts.{PrivatePart, part_of, public_part}
 use Rattle.rv64_isa.specs.Instruction.{Effect, steps, calls, traps, instruction, is_step, list_of}
 use Rattle.rv64_isa.specs.Memory.{Write, private_cells}
+use Rattle.rv64_isa.specs.declared.regs.Regs.{Regs}
 
 -- what the next instruction comes to where the private mappings alone are seen
 abbrev pub part_effect : PrivatePart → Effect
@@ -15,9 +16,13 @@ part_effect s = instruction (private_cells (cells_of s.memory s.maps)) s.regs
 unfoldable pub is_local_part : PrivatePart → Bool
 is_local_part s = is_step (part_effect s)
 
+-- the part with new registers, after these writes
+abbrev pub continued_part : PrivatePart → Regs → List Write → PrivatePart
+continued_part s r writes = record { regs = r; maps = s.maps; memory = with_writes s.memory s.maps writes }
+
 -- the part after the next step, which changes nothing where it isn't local
 abbrev pub part_after : PrivatePart → Effect → PrivatePart
-part_after s (steps r stored) = record { regs = r; maps = s.maps; memory = with_writes s.memory s.maps (list_of stored) }
+part_after s (steps r stored) = continued_part s r (list_of stored)
 part_after s calls = s
 part_after s (traps status) = s
 

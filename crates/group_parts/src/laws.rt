@@ -1,25 +1,32 @@
 //! What holds of a group's parts, whatever the group.
 
-ghost use Rattle.std.specs.Prelude.{◌≡◌, ◌↔◌, ◌⊎◌, ◌<◌, ◌==◌, ◌+◌, ◌++◌, ℕ, Bool, IsTrue, List, [], map, Some, false};
+ghost use Rattle.std.specs.Prelude.{◌≡◌, ◌↔◌, ◌⊎◌, ◌<◌, ◌==◌, ◌+◌, ◌++◌, ◌-◌, ◌^◌, ℕ, Bool, IsTrue, List, [], Option, map, Some, true, false};
 ghost use Rattle.std.specs.List.{list_any};
+ghost use Rattle.group_defs.specs.Calls.{answers, refuses, waits};
 ghost use Rattle.group_defs.specs.Cells.{cells_of, sight};
-ghost use Rattle.group_defs.specs.Group.{Group, runner};
+ghost use Rattle.group_defs.specs.Group.{Group, regs_of, runner};
 ghost use Rattle.group_defs.specs.Standing.{State, group_barrier};
-ghost use Rattle.group_defs.specs.Step.{after_reply, call_in, do_step, group_step, is_local};
+ghost use Rattle.group_defs.specs.Step.{after_reply, call_in, do_step, effect_in, group_step, is_local, reply_to};
 ghost use Rattle.group_defs.specs.Valid.{GroupIsValid};
+ghost use Rattle.group_defs.specs.declared.calls.TheConstants.{CLONE};
 ghost use Rattle.group_defs.specs.declared.frame.Proc.{Proc};
 ghost use Rattle.group_parts.specs.Kept.{KeptParts, Puts, StandsFor, TakesOut, all_parts, kept_part, with_part};
 ghost use Rattle.group_parts.specs.Leases.{IsLeaseOf, LeasesStand, LeavesLease};
-ghost use Rattle.group_parts.specs.Local.{AllLocalPart, OnlyPartChanges, is_local_part, local_steps, pages_of_steps};
+ghost use Rattle.group_parts.specs.Local.{AllLocalPart, OnlyPartChanges, continued_part, is_local_part, local_steps, pages_of_steps};
 ghost use Rattle.group_parts.specs.Marks.{AreAllowed, is_turn_by, is_turn_of};
-ghost use Rattle.group_parts.specs.Parts.{IsApart, PrivatePart, part_in, part_of, public_part};
-ghost use Rattle.run_defs.specs.Legal.{Allowed, TakeAllowed, TurnAllowed};
+ghost use Rattle.group_parts.specs.Parts.{IsApart, PrivatePart, part_in, part_of, private_memory, public_part};
+ghost use Rattle.group_parts.specs.Served.{stored_in};
+ghost use Rattle.run_defs.specs.Legal.{Allowed, TakeAllowed, TurnAllowed, is_unleased};
 ghost use Rattle.run_defs.specs.Progress.{Lease, Progress, after_mark, is_lease, leases_after_turn, progress_after, progress_at};
 ghost use Rattle.run_defs.specs.Touched.{touched_with_steps};
 ghost use Rattle.run_defs.specs.Turns.{AllLocal, steps_of, turned};
 ghost use Rattle.run_defs.specs.declared.run.Limits.{Limits};
 ghost use Rattle.run_defs.specs.declared.run.Mark.{Mark};
 ghost use Rattle.run_defs.specs.declared.run.Mark.TheVariants.{Take, Turn};
+ghost use Rattle.rv64_isa.specs.Instruction.{calls, list_of, steps};
+ghost use Rattle.rv64_isa.specs.Memory.{Write};
+ghost use Rattle.rv64_isa.specs.Registers.{answered};
+ghost use Rattle.rv64_isa.specs.declared.regs.Regs.{Regs};
 ghost use Rattle.tables.specs.Rising.{Rise};
 
 /// The frame law: what one process does leaves the private part of every other, which is its registers, its mappings and the
@@ -151,8 +158,56 @@ pub fn barriers_and_fetches()
         ≡ record k.public.frame { procs = map (with_part k.here) k.public.frame.procs } }
 {}
 
-/// What a call sees lies in its caller's part and in the public one.
+/// What a call sees lies in its caller's part and in the public one, and what it has to show is what becomes of these two:
+/// no step, and no call but clone, changes what another process has, or lets one run that didn't.
 pub fn calls_by_their_parts()
     ensures sees { (g : Group) (pid : ℕ) (p : Proc) → GroupIsValid g → runner g pid ≡ Some p
         → sight g p ≡ cells_of ((part_in g p).memory ++ (public_part g).memory) p.maps }
+    ensures others { (durable : Bool) (g : Group) (pid other : ℕ) → GroupIsValid g
+        → (pid == other) ≡ false → part_of (group_step durable g pid) other ≡ part_of g other }
+    ensures others_by_calls { (durable : Bool) (g : Group) (pid other number : ℕ) (p : Proc)
+        → GroupIsValid g → (pid == other) ≡ false → runner g pid ≡ Some p
+        → (number == CLONE) ≡ false
+        → part_of (after_reply g p (call_in durable g p number)) other ≡ part_of g other }
+    ensures stands { (leases : List Lease) (k new : KeptParts) (g h : Group) (pid : ℕ)
+        → StandsFor leases k g → is_unleased leases pid ≡ true
+        → ((other : ℕ) → (pid == other) ≡ false → part_of h other ≡ part_of g other)
+        → new.public ≡ public_part h → kept_part new.here pid ≡ part_of h pid
+        → ((other : ℕ) → (pid == other) ≡ false
+        → kept_part new.here other ≡ kept_part k.here other) → StandsFor leases new h }
+{}
+
+/// The step of a process whose part is here, by what comes of it: an instruction that isn't local, a call that waits, is
+/// refused, or answers and leaves the processes and the caller's private objects as they were. The caller's part gets new
+/// registers, and what is stored lands in it and in the public objects.
+pub fn steps_served()
+    ensures instruction { (durable : Bool) (leases : List Lease) (k : KeptParts) (g : Group)
+        (pid : ℕ) (p : Proc) → StandsFor leases k g → GroupIsValid g → runner g pid ≡ Some p
+        → is_unleased leases pid ≡ true → (r : Regs) (stored : Option Write)
+        (here : List (ℕ × PrivatePart)) → effect_in g p ≡ steps r stored
+        → Puts k.here here pid (continued_part (part_in g p) r (list_of stored))
+        → StandsFor leases (record {
+          public = stored_in k.public p.maps (list_of stored);
+          here = here;
+        }) (group_step durable g pid) }
+    ensures wait { (durable : Bool) (leases : List Lease) (k : KeptParts) (g : Group) (pid : ℕ)
+        (p : Proc) → StandsFor leases k g → GroupIsValid g → runner g pid ≡ Some p
+        → is_unleased leases pid ≡ true → effect_in g p ≡ calls → reply_to durable g p ≡ waits
+        → StandsFor leases k (group_step durable g pid) }
+    ensures refusal { (durable : Bool) (leases : List Lease) (k : KeptParts) (g : Group)
+        (pid : ℕ) (p : Proc) → StandsFor leases k g → GroupIsValid g → runner g pid ≡ Some p
+        → is_unleased leases pid ≡ true → (errno : ℕ) (here : List (ℕ × PrivatePart))
+        → effect_in g p ≡ calls → reply_to durable g p ≡ refuses errno → Puts k.here here pid
+        (record (part_in g p) { regs = answered (regs_of p) (2 ^ 64 - errno) })
+        → StandsFor leases (record k { here = here }) (group_step durable g pid) }
+    ensures answer { (durable : Bool) (leases : List Lease) (k : KeptParts) (g : Group)
+        (pid : ℕ) (p : Proc) → StandsFor leases k g → GroupIsValid g → runner g pid ≡ Some p
+        → is_unleased leases pid ≡ true → (value : ℕ) (h : Group) (writes : List Write)
+        (public : Group) (here : List (ℕ × PrivatePart)) → effect_in g p ≡ calls
+        → reply_to durable g p ≡ answers value h writes → h.frame.procs ≡ g.frame.procs
+        → private_memory h.memory p.maps ≡ private_memory g.memory p.maps
+        → public ≡ public_part h → Puts k.here here pid
+        (continued_part (part_in g p) (answered (regs_of p) value) writes)
+        → StandsFor leases (record { public = stored_in public p.maps writes; here = here })
+        (group_step durable g pid) }
 {}
