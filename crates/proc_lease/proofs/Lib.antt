@@ -1,0 +1,9 @@
+pub mod Mapped
+pub mod Stores
+pub mod StoredCells
+pub mod Runs
+pub mod InPage
+pub mod Views
+pub mod Across
+pub mod Steps
+pub mod Spelled
