@@ -17,3 +17,6 @@ pub mod Whole
 pub mod Sight
 pub mod NoneStarts
 pub mod Served
+pub mod EndRows
+pub mod Numbered
+pub mod Ended

@@ -4,6 +4,7 @@ ghost use Rattle.std.specs.Prelude.{◌≡◌, ◌↔◌, ◌⊎◌, ◌<◌, �
 ghost use Rattle.std.specs.List.{list_any};
 ghost use Rattle.group_defs.specs.Calls.{answers, refuses, waits};
 ghost use Rattle.group_defs.specs.Cells.{cells_of, sight};
+ghost use Rattle.group_defs.specs.Family.{ended};
 ghost use Rattle.group_defs.specs.Group.{Group, regs_of, runner};
 ghost use Rattle.group_defs.specs.Standing.{State, group_barrier};
 ghost use Rattle.group_defs.specs.Step.{after_reply, call_in, do_step, effect_in, group_step, is_local, reply_to};
@@ -15,7 +16,7 @@ ghost use Rattle.group_parts.specs.Leases.{IsLeaseOf, LeasesStand, LeavesLease};
 ghost use Rattle.group_parts.specs.Local.{AllLocalPart, OnlyPartChanges, continued_part, is_local_part, local_steps, pages_of_steps};
 ghost use Rattle.group_parts.specs.Marks.{AreAllowed, is_turn_by, is_turn_of};
 ghost use Rattle.group_parts.specs.Parts.{IsApart, PrivatePart, part_in, part_of, private_memory, public_part};
-ghost use Rattle.group_parts.specs.Served.{stored_in};
+ghost use Rattle.group_parts.specs.Served.{public_ended, stored_in};
 ghost use Rattle.run_defs.specs.Legal.{Allowed, TakeAllowed, TurnAllowed, is_unleased};
 ghost use Rattle.run_defs.specs.Progress.{Lease, Progress, after_mark, is_lease, leases_after_turn, progress_after, progress_at};
 ghost use Rattle.run_defs.specs.Touched.{touched_with_steps};
@@ -178,8 +179,9 @@ pub fn calls_by_their_parts()
 {}
 
 /// The step of a process whose part is here, by what comes of it: an instruction that isn't local, a call that waits, is
-/// refused, or answers and leaves the processes and the caller's private objects as they were. The caller's part gets new
-/// registers, and what is stored lands in it and in the public objects.
+/// refused, or answers and leaves the processes and the caller's private objects as they were; and the end of the process. The
+/// caller's part gets new registers, and what is stored lands in it and in the public objects; an ended process leaves what
+/// the rows of the public part and its own mappings say.
 pub fn steps_served()
     ensures instruction { (durable : Bool) (leases : List Lease) (k : KeptParts) (g : Group)
         (pid : ℕ) (p : Proc) → StandsFor leases k g → GroupIsValid g → runner g pid ≡ Some p
@@ -209,5 +211,11 @@ pub fn steps_served()
         → public ≡ public_part h → Puts k.here here pid
         (continued_part (part_in g p) (answered (regs_of p) value) writes)
         → StandsFor leases (record { public = stored_in public p.maps writes; here = here })
+        (group_step durable g pid) }
+    ensures end { (durable : Bool) (leases : List Lease) (k : KeptParts) (g : Group) (pid : ℕ)
+        (p : Proc) → StandsFor leases k g → GroupIsValid g → runner g pid ≡ Some p
+        → is_unleased leases pid ≡ true → (status : ℕ) (here : List (ℕ × PrivatePart))
+        → group_step durable g pid ≡ ended g p status → TakesOut k.here here pid
+        → StandsFor leases (record { public = public_ended k.public p status; here = here })
         (group_step durable g pid) }
 {}

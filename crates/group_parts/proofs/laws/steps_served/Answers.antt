@@ -1,3 +1,4 @@
+use Rattle.group_parts.proofs.Ended.{end_served}
 use Rattle.group_parts.proofs.Served.{answer_served, instruction_served, refusal_served, wait_served}
 use Rattle.group_parts.proofs.laws.steps_served.Goals as goal
 
@@ -12,3 +13,6 @@ returns-clause-refusal c = refusal_served
 
 pub returns-clause-answer : goal.returns-clause-answer
 returns-clause-answer c = answer_served
+
+pub returns-clause-end : goal.returns-clause-end
+returns-clause-end c = end_served
