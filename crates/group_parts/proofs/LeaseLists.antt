@@ -127,7 +127,7 @@ pub still_out : (leases : List Lease) (worker pid other p : ℕ) (did : Bool) �
 still_out leases worker pid other p did differ out = alike (is_lease worker pid) did (left other p leases) (λ l. refl) ∙ left_out leases worker pid other p differ out
 
 -- whose turn is next has what each of those has
-next_has : (P : ℕ → Type 0) (last : ℕ) (pids : List ℕ) (pid : ℕ) → All P pids → next_pid last pids ≡ Some pid → P pid
+pub next_has : (P : ℕ → Type 0) (last : ℕ) (pids : List ℕ) (pid : ℕ) → All P pids → next_pid last pids ≡ Some pid → P pid
 next_has P last pids pid all e = by_found (find (nat_lt last) pids) refl e
   where
     first : (pids : List ℕ) → All P pids → slice_get pids 0 ≡ Some pid → P pid

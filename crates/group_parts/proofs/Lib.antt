@@ -20,3 +20,5 @@ pub mod Served
 pub mod EndRows
 pub mod Numbered
 pub mod Ended
+pub mod OwnPages
+pub mod Callers

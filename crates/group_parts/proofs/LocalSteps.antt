@@ -50,7 +50,7 @@ owned_at : (maps : List Mapping) (a : ℕ) (bytes : List ℕ) → AreOwn maps a 
 owned_at maps a [] own = tt
 owned_at maps a (b ∷ bs) own = (λ m e. found_privately maps (wrapped a) m e (subst IsOwn e own.0), owned_at maps (a + 1) bs own.1)
 
-owned_of : (maps : List Mapping) (r : Regs) (stored : Option Write) → StoresOwn maps (steps r stored) → EachOf (maps_privately maps) maps (list_of stored)
+pub owned_of : (maps : List Mapping) (r : Regs) (stored : Option Write) → StoresOwn maps (steps r stored) → EachOf (maps_privately maps) maps (list_of stored)
 owned_of maps r None own = tt
 owned_of maps r (Some w) own = (owned_at maps w.address w.bytes own, tt)
 

@@ -21,9 +21,16 @@ use Rattle.group_parts.proofs.Apart.{valid_apart}
 use Rattle.group_parts.proofs.LocalValid.{local_steps_valid}
 use Rattle.group_parts.proofs.MarksParts.{local_leaves}
 use Rattle.group_parts.proofs.OthersParts.{behind}
+use Rattle.group_parts.specs.Marks.{is_turn_of}
 use Rattle.group_parts.specs.Parts.{IsApart, PrivatePart, part_of}
+use Rattle.run_defs.specs.Legal.{Allowed}
+use Rattle.run_defs.specs.Marks.{is_barrier}
+use Rattle.run_defs.specs.Progress.{Progress, after_mark}
 use Rattle.run_defs.specs.Touched.{touched_with_steps, touched_with_turn}
 use Rattle.run_defs.specs.Turns.{AllLocal, steps_of}
+use Rattle.run_defs.specs.declared.run.Limits.{Limits}
+use Rattle.run_defs.specs.declared.run.Mark.{Mark}
+use Rattle.run_defs.specs.declared.run.Mark.TheVariants.{Take, Turn, Barrier, Fetch, Ack}
 
 -- In a valid group an object that a running process maps privately is no file's, and has a number below the next one.
 module _ (g : Group) (p : ℕ) (x : Proc) (object : ℕ) (valid : GroupIsValid g) (there : find (is_runner p) g.frame.procs ≡ Some x) (own : maps_privately x.maps object ≡ true) where
@@ -97,3 +104,12 @@ module _ (s : State) (pid p : ℕ) (part : PrivatePart) (object page : ℕ) (val
       by_end : (b : Bool) → is_among (touched_with_steps s pid (if b then n else suc n) so_far) (object, page) ≡ is_among so_far (object, page)
       by_end true = local_leave_page n all
       by_end false = one_more n all (local_leave_page n all)
+
+-- So does each mark that is no Turn of p and no Barrier, with which the next interval begins.
+pub mark_leaves_page : (limits : Limits) (r : Progress) (m : Mark) (p : ℕ) (part : PrivatePart) (object page : ℕ) → GroupIsValid r.state.group → Allowed limits r m → is_turn_of p m ≡ false → is_barrier m ≡ false → part_of r.state.group p ≡ Some part → maps_privately part.maps object ≡ true
+    → is_among (after_mark limits.quantum r m).touched (object, page) ≡ is_among r.touched (object, page)
+mark_leaves_page limits r (Take worker pid) p part object page valid allowed none still is own = refl
+mark_leaves_page limits r (Turn worker pid n) p part object page valid allowed none still is own = turn_leaves_page r.state pid p part object page valid none is own r.touched limits.quantum n allowed.turn.all_local
+mark_leaves_page limits r (Barrier epoch) p part object page valid allowed none still is own = absurd (false≢true (sym still))
+mark_leaves_page limits r (Fetch epoch) p part object page valid allowed none still is own = refl
+mark_leaves_page limits r (Ack epoch) p part object page valid allowed none still is own = refl

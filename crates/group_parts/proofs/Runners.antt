@@ -14,7 +14,7 @@ use Rattle.group_laws.proofs.ReplyLaws.{found_pid}
 use Rattle.group_laws.proofs.SettledLaws.{rise_unique}
 use Rattle.tables.specs.Rising.{Rise}
 
-some_found : {X : Type 0} (t : X → Bool) (xs : List X) → list_any t xs ≡ true → (y : X) × (find t xs ≡ Some y)
+pub some_found : {X : Type 0} (t : X → Bool) (xs : List X) → list_any t xs ≡ true → (y : X) × (find t xs ≡ Some y)
 some_found t [] e = absurd (false≢true e)
 some_found t (x ∷ xs) e = by_test (t x) e (some_found t xs)
   where

@@ -39,7 +39,7 @@ unfoldable pub AllLocalPart : PrivatePart → ℕ → Type 0
 AllLocalPart s zero = Unit {0}
 AllLocalPart s (suc n) = AllLocalPart s n × IsTrue (is_local_part (local_steps s n))
 
--- the pages that the next step stores to, and those of n steps
+-- what the next step stores, the pages that it stores to, and those of n steps
 abbrev pub writes_of_effect : Effect → List Write
 writes_of_effect (steps r stored) = list_of stored
 writes_of_effect calls = []

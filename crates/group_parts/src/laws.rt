@@ -3,21 +3,24 @@
 ghost use Rattle.std.specs.Prelude.{◌≡◌, ◌↔◌, ◌⊎◌, ◌<◌, ◌==◌, ◌+◌, ◌++◌, ◌-◌, ◌^◌, ℕ, Bool, IsTrue, List, [], Option, map, Some, true, false};
 ghost use Rattle.std.specs.List.{list_any};
 ghost use Rattle.group_defs.specs.Calls.{answers, refuses, waits};
-ghost use Rattle.group_defs.specs.Cells.{cells_of, sight};
+ghost use Rattle.group_defs.specs.Cells.{bytes_in, cells_of, sight};
 ghost use Rattle.group_defs.specs.Family.{ended};
+ghost use Rattle.group_defs.specs.Fork.{maps_privately};
 ghost use Rattle.group_defs.specs.Group.{Group, regs_of, runner};
+ghost use Rattle.group_defs.specs.Pages.{is_among};
 ghost use Rattle.group_defs.specs.Standing.{State, group_barrier};
 ghost use Rattle.group_defs.specs.Step.{after_reply, call_in, do_step, effect_in, group_step, is_local, reply_to};
 ghost use Rattle.group_defs.specs.Valid.{GroupIsValid};
 ghost use Rattle.group_defs.specs.declared.calls.TheConstants.{CLONE};
 ghost use Rattle.group_defs.specs.declared.frame.Proc.{Proc};
-ghost use Rattle.group_parts.specs.Kept.{KeptParts, Puts, StandsFor, TakesOut, all_parts, kept_part, with_part};
+ghost use Rattle.group_parts.specs.Kept.{KeptParts, Puts, StandsFor, TakesOut, all_parts, filled, kept_part, with_part};
 ghost use Rattle.group_parts.specs.Leases.{IsLeaseOf, LeasesStand, LeavesLease};
 ghost use Rattle.group_parts.specs.Local.{AllLocalPart, OnlyPartChanges, continued_part, is_local_part, local_steps, pages_of_steps};
 ghost use Rattle.group_parts.specs.Marks.{AreAllowed, is_turn_by, is_turn_of};
-ghost use Rattle.group_parts.specs.Parts.{IsApart, PrivatePart, part_in, part_of, private_memory, public_part};
+ghost use Rattle.group_parts.specs.Parts.{IsApart, PrivatePart, is_public, part_in, part_of, private_memory, public_part};
 ghost use Rattle.group_parts.specs.Served.{public_ended, stored_in};
 ghost use Rattle.run_defs.specs.Legal.{Allowed, TakeAllowed, TurnAllowed, is_unleased};
+ghost use Rattle.run_defs.specs.Marks.{is_barrier};
 ghost use Rattle.run_defs.specs.Progress.{Lease, Progress, after_mark, is_lease, leases_after_turn, progress_after, progress_at};
 ghost use Rattle.run_defs.specs.Touched.{touched_with_steps};
 ghost use Rattle.run_defs.specs.Turns.{AllLocal, steps_of, turned};
@@ -32,7 +35,8 @@ ghost use Rattle.tables.specs.Rising.{Rise};
 
 /// The frame law: what one process does leaves the private part of every other, which is its registers, its mappings and the
 /// objects that it maps privately. This holds of a step of any kind, its end too, and of every call that is defined; of a mark
-/// that is allowed and is no Turn of the other process; and of any such marks in a run.
+/// that is allowed and is no Turn of the other process; and of any such marks in a run. Nor does such a mark touch a page of an
+/// object that the other maps privately, but a Barrier, with which the next interval begins.
 pub fn frame_law()
     ensures step { (durable : Bool) (g : Group) (pid other : ℕ) (part : PrivatePart)
         → GroupIsValid g → (pid == other) ≡ false → part_of g other ≡ Some part
@@ -49,6 +53,12 @@ pub fn frame_law()
         (part : PrivatePart) → AreAllowed limits r marks → list_any (is_turn_of p) marks ≡ false
         → part_of r.state.group p ≡ Some part
         → part_of (progress_after limits.quantum r marks).state.group p ≡ Some part }
+    ensures pages { (limits : Limits) (r : Progress) (m : Mark) (p : ℕ) (part : PrivatePart)
+        (object page : ℕ) → GroupIsValid r.state.group → Allowed limits r m
+        → is_turn_of p m ≡ false → is_barrier m ≡ false → part_of r.state.group p ≡ Some part
+        → maps_privately part.maps object ≡ true
+        → is_among (after_mark limits.quantum r m).touched (object, page)
+        ≡ is_among r.touched (object, page) }
 {}
 
 /// In a valid group no running process maps what another one maps privately. A legal run keeps its group valid
@@ -61,7 +71,7 @@ pub fn apart_from_the_start()
 
 /// Local steps are steps of the private part alone. A process's next step is local where its part's is, and the next n are
 /// where the part's are. These make of the part what its own steps make of it, leave the public part and every other private
-/// part, and touch the pages that the part's steps store to.
+/// part, and touch the pages that the part's steps store to, which are of objects that it maps privately.
 pub fn local_steps_are_of_the_part()
     ensures same { (g : Group) (pid : ℕ) (part : PrivatePart) → part_of g pid ≡ Some part
         → is_local g pid ≡ is_local_part part }
@@ -73,6 +83,9 @@ pub fn local_steps_are_of_the_part()
     ensures touched { (s : State) (pid : ℕ) (part : PrivatePart) (n : ℕ) (so_far : List (ℕ × ℕ))
         → IsApart s.group → part_of s.group pid ≡ Some part → AllLocalPart part n
         → touched_with_steps s pid n so_far ≡ so_far ++ pages_of_steps part n }
+    ensures own_pages { (part : PrivatePart) (n object page : ℕ)
+        → maps_privately part.maps object ≡ false
+        → is_among (pages_of_steps part n) (object, page) ≡ false }
 {}
 
 /// A lease commutes with what others do: its part is what its local steps make of its process's private part in the present
@@ -107,7 +120,8 @@ pub fn starts()
     ensures { (g : Group) → StandsFor [] (all_parts g) g }
 {}
 
-/// A Take hands out what the group has of its process; what is kept then stands for the same group with one lease more out.
+/// A Take hands out what the group has of its process, whose part is here; what is kept then stands for the same group with one
+/// lease more out.
 pub fn takes()
     ensures stands { (limits : Limits) (r : Progress) (k : KeptParts) (worker pid : ℕ)
         (here : List (ℕ × PrivatePart)) → StandsFor r.leases k r.state.group
@@ -118,6 +132,9 @@ pub fn takes()
         (part : PrivatePart) → StandsFor r.leases k r.state.group
         → TakeAllowed limits r worker pid → kept_part k.here pid ≡ Some part
         → IsLeaseOf r.state.group pid 0 part }
+    ensures here { (limits : Limits) (r : Progress) (k : KeptParts) (worker pid : ℕ)
+        → StandsFor r.leases k r.state.group → TakeAllowed limits r worker pid
+        → (part : PrivatePart) × (kept_part k.here pid ≡ Some part) }
 {}
 
 /// A lease is given back at the quantum, or before a step that isn't local: its Turn is allowed then, also where it did
@@ -150,17 +167,26 @@ pub fn gives()
 {}
 
 /// A barrier leaves all but the output. Where no lease is out, the frame that a fetch copies is that of the public part with
-/// the private parts in their processes' rows.
+/// the private parts in their processes' rows. The bytes of an object are those in the private part of who maps it privately,
+/// else those in the public part.
 pub fn barriers_and_fetches()
     ensures stands { (leases : List Lease) (k : KeptParts) (g : Group) → StandsFor leases k g
         → StandsFor leases (record k { public = group_barrier k.public }) (group_barrier g) }
     ensures frame { (g : Group) (k : KeptParts) → StandsFor [] k g
         → Rise (λ p. p.pid) g.frame.procs → g.frame
         ≡ record k.public.frame { procs = map (with_part k.here) k.public.frame.procs } }
+    ensures private_bytes { (leases : List Lease) (k : KeptParts) (g : Group) (pid object : ℕ)
+        (part : PrivatePart) → StandsFor leases k g → is_unleased leases pid ≡ true
+        → kept_part k.here pid ≡ Some part → maps_privately part.maps object ≡ true
+        → bytes_in part.memory object ≡ bytes_in g.memory object }
+    ensures public_bytes { (leases : List Lease) (k : KeptParts) (g : Group) (object : ℕ)
+        → StandsFor leases k g → is_public g.frame.procs object ≡ true
+        → bytes_in k.public.memory object ≡ bytes_in g.memory object }
 {}
 
-/// What a call sees lies in its caller's part and in the public one, and what it has to show is what becomes of these two:
-/// no step, and no call but clone, changes what another process has, or lets one run that didn't.
+/// A call's caller is its row of the public part with its private part. What it sees lies in these two parts, and what has to
+/// be shown of it is what becomes of them: no step, and no call but clone, which isn't served yet, changes what another
+/// process has, or lets one run that didn't.
 pub fn calls_by_their_parts()
     ensures sees { (g : Group) (pid : ℕ) (p : Proc) → GroupIsValid g → runner g pid ≡ Some p
         → sight g p ≡ cells_of ((part_in g p).memory ++ (public_part g).memory) p.maps }
@@ -176,6 +202,10 @@ pub fn calls_by_their_parts()
         → new.public ≡ public_part h → kept_part new.here pid ≡ part_of h pid
         → ((other : ℕ) → (pid == other) ≡ false
         → kept_part new.here other ≡ kept_part k.here other) → StandsFor leases new h }
+    ensures caller { (leases : List Lease) (k : KeptParts) (g : Group) (pid : ℕ) (row : Proc)
+        (part : PrivatePart) → StandsFor leases k g → is_unleased leases pid ≡ true
+        → runner k.public pid ≡ Some row → kept_part k.here pid ≡ Some part
+        → runner g pid ≡ Some (filled (Some part) row) }
 {}
 
 /// The step of a process whose part is here, by what comes of it: an instruction that isn't local, a call that waits, is

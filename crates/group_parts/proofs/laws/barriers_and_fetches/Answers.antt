@@ -1,3 +1,4 @@
+use Rattle.group_parts.proofs.Callers.{private_bytes, public_bytes}
 use Rattle.group_parts.proofs.KeptLaws.{barrier_stands}
 use Rattle.group_parts.proofs.Whole.{whole_frame}
 use Rattle.group_parts.proofs.laws.barriers_and_fetches.Goals as goal
@@ -7,3 +8,9 @@ returns-clause-stands c = barrier_stands
 
 pub returns-clause-frame : goal.returns-clause-frame
 returns-clause-frame c = whole_frame
+
+pub returns-clause-private_bytes : goal.returns-clause-private_bytes
+returns-clause-private_bytes c = private_bytes
+
+pub returns-clause-public_bytes : goal.returns-clause-public_bytes
+returns-clause-public_bytes c = public_bytes

@@ -1,3 +1,4 @@
+use Rattle.group_parts.proofs.Callers.{caller_is}
 use Rattle.group_parts.proofs.NoneStarts.{calls_leave_others, steps_leave_others}
 use Rattle.group_parts.proofs.Served.{stands_on}
 use Rattle.group_parts.proofs.Sight.{sight_of_parts}
@@ -14,3 +15,6 @@ returns-clause-others_by_calls c = calls_leave_others
 
 pub returns-clause-stands : goal.returns-clause-stands
 returns-clause-stands c = stands_on
+
+pub returns-clause-caller : goal.returns-clause-caller
+returns-clause-caller c = caller_is

@@ -1,5 +1,6 @@
 use Rattle.group_parts.proofs.LocalPages.{steps_touch}
 use Rattle.group_parts.proofs.LocalSteps.{all_local_in_group, all_local_in_part, local_in_group, steps_change}
+use Rattle.group_parts.proofs.OwnPages.{steps_touch_own}
 use Rattle.group_parts.proofs.laws.local_steps_are_of_the_part.Goals as goal
 
 pub returns-clause-same : goal.returns-clause-same
@@ -13,3 +14,6 @@ returns-clause-steps c = steps_change
 
 pub returns-clause-touched : goal.returns-clause-touched
 returns-clause-touched c = steps_touch
+
+pub returns-clause-own_pages : goal.returns-clause-own_pages
+returns-clause-own_pages c = steps_touch_own
