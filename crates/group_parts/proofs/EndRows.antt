@@ -1,5 +1,6 @@
 -- The rows of a group's processes when one ends.
 use Rattle.std.proofs.Common.{Bool, List, None, Option, Some, [], ap, false, map, not, refl, subst, sym, true, ℕ, ◌&&◌, ◌==◌, ◌||◌, ◌∙◌, ◌∷◌, ◌≡◌}
+use Rattle.std.proofs.Math.Bool.{and-false, and-true}
 use Rattle.std.proofs.lemmas.Bool.{false≢true, or_parts}
 use Rattle.std.proofs.lemmas.List.Elements.{All-head, All-tail}
 use Rattle.std.specs.List.{cons_option, filter_map, list_any}
@@ -58,24 +59,16 @@ module _ (p : Proc) (status : ℕ) where
   any_left test none [] ended = refl
   any_left test none (y ∷ ys) ended = cases (is_runner p.pid y) (p.parent == 0) (y.parent == p.pid) (is_running y) refl refl (any_left test none ys (All-tail (λ q. is_running q ≡ false → q.maps ≡ []) y ys ended))
     where
-      and_false : (b : Bool) → (b && false) ≡ false
-      and_false true = refl
-      and_false false = refl
-
-      and_true : (b : Bool) → (b && true) ≡ b
-      and_true true = refl
-      and_true false = refl
-
       gone : is_running y ≡ false → (b : Bool) → (test y.maps && b) ≡ false
       gone e b = ap (λ (l : List Mapping). test l && b) (All-head (λ q. is_running q ≡ false → q.maps ≡ []) y ys ended e) ∙ ap (λ (t : Bool). t && b) none
 
       cases : (a b c d : Bool) → is_runner p.pid y ≡ a → is_running y ≡ d → any test (filter_map (after_end p status) ys) ≡ others test ys
           → any test (cons_option (if a then (if b then None else Some (ended_process p status)) else if c then (if d then Some (record y { parent = 0 }) else None) else Some y) (filter_map (after_end p status) ys)) ≡ ((test y.maps && not a) || others test ys)
-      cases true true c d e f ih = ih ∙ sym (ap (λ (t : Bool). t || others test ys) (and_false (test y.maps)))
-      cases true false c d e f ih = ap (λ (t : Bool). t || any test (filter_map (after_end p status) ys)) none ∙ ih ∙ sym (ap (λ (t : Bool). t || others test ys) (and_false (test y.maps)))
-      cases false b true true e f ih = ap (λ (t : Bool). test y.maps || t) ih ∙ sym (ap (λ (t : Bool). t || others test ys) (and_true (test y.maps)))
+      cases true true c d e f ih = ih ∙ sym (ap (λ (t : Bool). t || others test ys) (and-false (test y.maps)))
+      cases true false c d e f ih = ap (λ (t : Bool). t || any test (filter_map (after_end p status) ys)) none ∙ ih ∙ sym (ap (λ (t : Bool). t || others test ys) (and-false (test y.maps)))
+      cases false b true true e f ih = ap (λ (t : Bool). test y.maps || t) ih ∙ sym (ap (λ (t : Bool). t || others test ys) (and-true (test y.maps)))
       cases false b true false e f ih = ih ∙ sym (ap (λ (t : Bool). t || others test ys) (gone f true))
-      cases false b false d e f ih = ap (λ (t : Bool). test y.maps || t) ih ∙ sym (ap (λ (t : Bool). t || others test ys) (and_true (test y.maps)))
+      cases false b false d e f ih = ap (λ (t : Bool). test y.maps || t) ih ∙ sym (ap (λ (t : Bool). t || others test ys) (and-true (test y.maps)))
 
   -- nobody runs under p's pid
   pub none_runs : (procs : List Proc) → find (is_runner p.pid) (left procs) ≡ None

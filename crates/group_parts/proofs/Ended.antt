@@ -1,6 +1,7 @@
 -- The end of a process while others are out: the public part goes on by its rows and the mappings of the process that ends.
 use Rattle.std.proofs.Common.{Bool, List, None, Some, [], ap, false, get_or, inl, inr, map, not, refl, sym, true, ℕ, ◌&&◌, ◌==◌, ◌||◌, ◌∙◌, ◌∷◌, ◌≡◌, ◌⊎◌}
 use Rattle.std.proofs.Math.Path.{fun_ext}
+use Rattle.std.proofs.Math.Bool.{and-false, and-true}
 use Rattle.std.proofs.lemmas.Bool.{cases_Bool, eq-eqb, eqb-true, false≢true}
 use Rattle.std.proofs.lemmas.List.Elements.{All-head, All-tail, All-weaker}
 use Rattle.std.specs.List.{filter_map, list_any}
@@ -102,25 +103,17 @@ module _ (g : Group) (valid : GroupIsValid g) (pid : ℕ) (p : Proc) (is : runne
   left_same : (test : List Mapping → Bool) → test [] ≡ false → test p.maps ≡ false → list_any (λ q. test q.maps) left ≡ list_any (λ q. test q.maps) procs
   left_same test none gone = any_left p status test none g.frame.procs (ended_maps g valid) ∙ same_any (λ q. test q.maps && not (is_runner p.pid q)) (λ q. test q.maps) g.frame.procs (All-weaker IsOne (λ q. (test q.maps && not (is_runner p.pid q)) ≡ test q.maps) by_one g.frame.procs each_one)
     where
-      and_true : (b : Bool) → (b && true) ≡ b
-      and_true true = refl
-      and_true false = refl
-
       by_one : (q : Proc) → IsOne q → (test q.maps && not (is_runner p.pid q)) ≡ test q.maps
       by_one q (inl same) = let none_here : test q.maps ≡ false = ap (λ (x : Proc). test x.maps) same ∙ gone in ap (λ (b : Bool). b && not (is_runner p.pid q)) none_here ∙ sym none_here
-      by_one q (inr (inl other)) = ap (λ (b : Bool). test q.maps && not b) other.0 ∙ and_true (test q.maps)
-      by_one q (inr (inr ended)) = ap (λ (b : Bool). test q.maps && not b) ended.0 ∙ and_true (test q.maps)
+      by_one q (inr (inl other)) = ap (λ (b : Bool). test q.maps && not b) other.0 ∙ and-true (test q.maps)
+      by_one q (inr (inr ended)) = ap (λ (b : Bool). test q.maps && not b) ended.0 ∙ and-true (test q.maps)
 
   -- and nothing is where all others don't
   left_none : (test : List Mapping → Bool) → test [] ≡ false → ((q : Proc) → find (is_runner q.pid) g.frame.procs ≡ Some q → (p.pid ≡ q.pid → ⊥) → test q.maps ≡ false) → list_any (λ q. test q.maps) left ≡ false
   left_none test none others = any_left p status test none g.frame.procs (ended_maps g valid) ∙ none_any (λ q. test q.maps && not (is_runner p.pid q)) g.frame.procs (All-weaker IsOne (λ q. (test q.maps && not (is_runner p.pid q)) ≡ false) by_one g.frame.procs each_one)
     where
-      and_false : (b : Bool) → (b && false) ≡ false
-      and_false true = refl
-      and_false false = refl
-
       by_one : (q : Proc) → IsOne q → (test q.maps && not (is_runner p.pid q)) ≡ false
-      by_one q (inl same) = ap (λ (b : Bool). test q.maps && not b) (itself q same) ∙ and_false (test q.maps)
+      by_one q (inl same) = ap (λ (b : Bool). test q.maps && not b) (itself q same) ∙ and-false (test q.maps)
         where
           itself : (q : Proc) → q ≡ p → is_runner p.pid q ≡ true
           itself q same = ap (is_runner p.pid) same ∙ runs (is_runner p.pid p) refl
@@ -176,13 +169,9 @@ module _ (g : Group) (valid : GroupIsValid g) (pid : ℕ) (p : Proc) (is : runne
         let file = not_file maps in
         let agree : (is_of_file g.frame.files n || list_any (maps_object n) left) ≡ stays_for rows p.maps n = ap (λ (b : Bool). b || list_any (maps_object n) left) file ∙ sym (rows_are ∙ rows_map left n none_left) ∙ sym (ap (λ (b : Bool). not b || list_any (maps_object n) rows) maps) in (
           agree,
-          ap (λ (b : Bool). (is_of_file g.frame.files n || list_any (maps_object n) left) && not b) none_left ∙ and_true (is_of_file g.frame.files n || list_any (maps_object n) left) ∙ agree ∙ sym (ap (λ (b : Bool). not b && stays_for rows p.maps n) none_private),
+          ap (λ (b : Bool). (is_of_file g.frame.files n || list_any (maps_object n) left) && not b) none_left ∙ and-true (is_of_file g.frame.files n || list_any (maps_object n) left) ∙ agree ∙ sym (ap (λ (b : Bool). not b && stays_for rows p.maps n) none_private),
         )
       where
-        and_true : (b : Bool) → (b && true) ≡ b
-        and_true true = refl
-        and_true false = refl
-
         by_one : (q : Proc) → IsOne q → maps_privately q.maps n ≡ false
         by_one q (inl same) = ap (λ (x : Proc). maps_privately x.maps n) same ∙ own
         by_one q (inr (inl other)) = by_test (maps_privately q.maps n) refl
@@ -202,12 +191,8 @@ module _ (g : Group) (valid : GroupIsValid g) (pid : ℕ) (p : Proc) (is : runne
         let stays : stays_for rows p.maps n ≡ true = ap (λ (b : Bool). not b || list_any (maps_object n) rows) gone in
         let public : is_public left n ≡ is_public procs n = ap not (left_same (λ l. maps_privately l n) refl own) in (
           here ∙ sym stays,
-          ap (λ (b : Bool). b && is_public left n) here ∙ public ∙ sym (ap (λ (b : Bool). is_public procs n && b) stays ∙ and_true (is_public procs n)),
+          ap (λ (b : Bool). b && is_public left n) here ∙ public ∙ sym (ap (λ (b : Bool). is_public procs n && b) stays ∙ and-true (is_public procs n)),
         )
-      where
-        and_true : (b : Bool) → (b && true) ≡ b
-        and_true true = refl
-        and_true false = refl
 
     agrees : Agrees
     agrees = by_tests (cases_Bool (maps_privately p.maps n)) (cases_Bool maps_it)

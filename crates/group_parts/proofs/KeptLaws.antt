@@ -1,5 +1,6 @@
 -- What is kept stands for the group: at the start, after a Take, and once a lease is given back.
 use Rattle.std.proofs.Common.{Bool, List, None, Option, Some, [], ap, arith, false, inl, inr, not, refl, subst, suc, sym, true, ℕ, ◌++◌, ◌&&◌, ◌<◌, ◌==◌, ◌||◌, ◌∙◌, ◌∷◌, ◌≡◌, ◌≤◌, ◌⊎◌}
+use Rattle.std.proofs.Math.Bool.{or-true}
 use Rattle.std.proofs.lemmas.Bool.{and_parts, eq-eqb, eqb-true, false≢true}
 use Rattle.std.proofs.lemmas.List.Elements.{All-head, All-tail}
 use Rattle.std.specs.List.{list_any}
@@ -97,17 +98,13 @@ acts_or_moved r worker pid (l ∷ ls) all out = by_lease (is_lease worker pid l)
 pub lease_moves : (r : Progress) (worker pid n : ℕ) → LeasesStand r → IsTrue (list_any (is_lease worker pid) r.leases) → IsTrue (does_something r.state pid n || has_moved r.leases worker pid)
 lease_moves r worker pid n stand out = by_case (acts_or_moved r worker pid r.leases stand.may_end out)
   where
-    or_true : (b : Bool) → (b || true) ≡ true
-    or_true true = refl
-    or_true false = refl
-
     acts : (b : Bool) → not (b && false) ≡ true
     acts true = refl
     acts false = refl
 
     by_case : (is_waiting r.state pid ≡ false) ⊎ (has_moved r.leases worker pid ≡ true) → (does_something r.state pid n || has_moved r.leases worker pid) ≡ true
     by_case (inl still) = ap (λ (b : Bool). b || has_moved r.leases worker pid) (ap (λ (b : Bool). not ((n == 0) && b)) still ∙ acts (n == 0))
-    by_case (inr moved) = ap (λ (b : Bool). does_something r.state pid n || b) moved ∙ or_true (does_something r.state pid n)
+    by_case (inr moved) = ap (λ (b : Bool). does_something r.state pid n || b) moved ∙ or-true (does_something r.state pid n)
 
 module _ (r : Progress) (worker pid done : ℕ) (part : PrivatePart) (stand : LeasesStand r) (apart : IsApart r.state.group) (out : IsTrue (list_any (is_lease worker pid) r.leases)) (lease : IsLeaseOf r.state.group pid done part) where
   -- Its Turn is allowed at the quantum, and before a step that isn't local.

@@ -1,5 +1,6 @@
 -- The leases that are out: no process has two, and a lease that hasn't moved is of a process that doesn't wait.
 use Rattle.std.proofs.Common.{Bool, List, None, Option, Some, [], ap, arith, false, inl, inr, map, not, refl, subst, sym, true, zero, suc, ℕ, ◌++◌, ◌&&◌, ◌==◌, ◌||◌, ◌∙◌, ◌∷◌, ◌≡◌, ◌⊎◌}
+use Rattle.std.proofs.Math.Bool.{or-true}
 use Rattle.std.proofs.lemmas.Bool.{and_parts, cases_Bool, eq-eqb, eqb-true, false≢true, or_parts}
 use Rattle.std.proofs.lemmas.List.Elements.{All-filter, All-head, All-map, All-nil, All-push, All-weaker, filter_passes}
 use Rattle.std.proofs.lemmas.List.Folds.{list_any-append}
@@ -19,10 +20,6 @@ use Rattle.run_defs.specs.Turns.{does_something, steps_of, turned}
 use Rattle.run_defs.specs.declared.run.Limits.{Limits}
 use Rattle.run_defs.specs.declared.run.Mark.{Mark}
 use Rattle.run_defs.specs.declared.run.Mark.TheVariants.{Take, Turn, Barrier, Fetch, Ack}
-
-or_true : (b : Bool) → (b || true) ≡ true
-or_true true = refl
-or_true false = refl
 
 pub not_true : (b : Bool) → not b ≡ true → b ≡ false
 not_true true e = absurd (false≢true e)
@@ -82,7 +79,7 @@ has_pid (l ∷ ls) worker pid e = by_test (l.worker == worker) (l.pid == pid) e 
     by_test : (a b : Bool) → ((a && b) || list_any (is_lease worker pid) ls) ≡ true → (list_any (is_lease worker pid) ls ≡ true → list_any (λ x. x.pid == pid) ls ≡ true) → (b || list_any (λ x. x.pid == pid) ls) ≡ true
     by_test true true e rest = refl
     by_test true false e rest = rest e
-    by_test false b e rest = ap (λ (t : Bool). b || t) (rest e) ∙ or_true b
+    by_test false b e rest = ap (λ (t : Bool). b || t) (rest e) ∙ or-true b
 
 pub one_worker : (leases : List Lease) (one other pid : ℕ) → LeasedOnce leases → list_any (is_lease one pid) leases ≡ true → list_any (is_lease other pid) leases ≡ true → one ≡ other
 one_worker [] one other pid once e f = absurd (false≢true e)
@@ -155,7 +152,7 @@ module _ (limits : Limits) (r : Progress) (worker pid : ℕ) (allowed : Allowed 
 -- A Turn that does nothing leaves all as it was.
 stands : (s : State) (pid : ℕ) → is_waiting s pid ≡ true → do_step s pid ≡ s
 unfolding do_step
-stands s pid waits = ap (λ (b : Bool). if b then s else step_to s pid (group_step (is_durable s.standing pid) s.group pid)) (ap (λ (b : Bool). is_none (runner s.group pid) || b) waits ∙ or_true (is_none (runner s.group pid)))
+stands s pid waits = ap (λ (b : Bool). if b then s else step_to s pid (group_step (is_durable s.standing pid) s.group pid)) (ap (λ (b : Bool). is_none (runner s.group pid) || b) waits ∙ or-true (is_none (runner s.group pid)))
 
 idle_same : (quantum : ℕ) (s : State) (pid n : ℕ) → does_something s pid n ≡ false → turned quantum s pid n ≡ s
 unfolding steps_of
