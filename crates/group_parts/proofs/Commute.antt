@@ -39,6 +39,7 @@ module _ (limits : Limits) (r : Progress) (worker pid done : ℕ) (part : Privat
 
   pub mark_leaves_lease : (m : Mark) → GroupIsValid r.state.group → Allowed limits r m → is_turn_by worker m ≡ false → LeavesLease r (after_mark limits.quantum r m) worker pid done part
   mark_leaves_lease (Take other p) valid allowed none = record {
+    stays = refl;
     lease = lease;
     out = list_any-append (is_lease worker pid) r.leases (record { worker = other; pid = p; moved = false } ∷ []) ∙ ap (λ (b : Bool). b || list_any (is_lease worker pid) (record { worker = other; pid = p; moved = false } ∷ [])) out;
     touched = λ object page own. refl;
@@ -46,26 +47,29 @@ module _ (limits : Limits) (r : Progress) (worker pid done : ℕ) (part : Privat
   }
   mark_leaves_lease (Turn other p n) valid allowed none =
       let differ : (p == pid) ≡ false = other_process other p n allowed none (p == pid) refl in
+      let there : part_of (after_mark limits.quantum r (Turn other p n)).state.group pid ≡ Some lease.taken = mark_leaves_parts limits r (Turn other p n) pid lease.taken valid allowed differ lease.taken_is in
       record {
-        lease = same_lease r.state.group (after_mark limits.quantum r (Turn other p n)).state.group pid done part lease (mark_leaves_parts limits r (Turn other p n) pid lease.taken valid allowed differ lease.taken_is);
+        stays = there ∙ sym lease.taken_is;
+        lease = same_lease r.state.group (after_mark limits.quantum r (Turn other p n)).state.group pid done part lease there;
         out = still_out r.leases worker pid other p (does_something r.state p n) none out;
         touched = λ object page own. turn_leaves_page r.state p pid lease.taken object page valid differ lease.taken_is (maps_same object own) r.touched limits.quantum n allowed.turn.all_local;
         checkpoints = refl;
       }
   mark_leaves_lease (Barrier epoch) valid allowed none = absurd (false≢true (ap (list_any (is_lease worker pid)) (sym allowed.rests.no_lease) ∙ out))
-  mark_leaves_lease (Fetch epoch) valid allowed none = record { lease = lease; out = out; touched = λ object page own. refl; checkpoints = refl }
-  mark_leaves_lease (Ack epoch) valid allowed none = record { lease = lease; out = out; touched = λ object page own. refl; checkpoints = refl }
+  mark_leaves_lease (Fetch epoch) valid allowed none = record { stays = refl; lease = lease; out = out; touched = λ object page own. refl; checkpoints = refl }
+  mark_leaves_lease (Ack epoch) valid allowed none = record { stays = refl; lease = lease; out = out; touched = λ object page own. refl; checkpoints = refl }
 
 -- A LEASE COMMUTES WITH WHAT OTHERS DO.
 pub marks_leave_lease : (limits : Limits) (r : Progress) (marks : List Mark) (worker pid done : ℕ) (part : PrivatePart) → AreAllowed limits r marks → LeasesStand r → IsTrue (list_any (is_lease worker pid) r.leases) → list_any (is_turn_by worker) marks ≡ false
     → IsLeaseOf r.state.group pid done part → LeavesLease r (progress_after limits.quantum r marks) worker pid done part
 unfolding EachMark
-marks_leave_lease limits r [] worker pid done part allowed stand out none lease = record { lease = lease; out = out; touched = λ object page own. refl; checkpoints = refl }
+marks_leave_lease limits r [] worker pid done part allowed stand out none lease = record { stays = refl; lease = lease; out = out; touched = λ object page own. refl; checkpoints = refl }
 marks_leave_lease limits r (m ∷ ms) worker pid done part allowed stand out none lease =
     let neither = or_parts (is_turn_by worker m) (list_any (is_turn_by worker) ms) none in
     let one = mark_leaves_lease limits r worker pid done part stand out lease m allowed.0.0 allowed.0.1 neither.0 in
     let rest = marks_leave_lease limits (after_mark limits.quantum r m) ms worker pid done part allowed.1 (mark_stands limits r stand m allowed.0.1) one.out neither.1 one.lease in
     record {
+      stays = rest.stays ∙ one.stays;
       lease = rest.lease;
       out = rest.out;
       touched = λ object page own. rest.touched object page own ∙ one.touched object page own;

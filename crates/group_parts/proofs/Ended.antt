@@ -30,7 +30,7 @@ use Rattle.group_parts.proofs.Memory.{Memory, kept_in}
 use Rattle.group_parts.proofs.NoneStarts.{steps_leave_others}
 use Rattle.group_parts.proofs.Runners.{ended_maps, runner_found}
 use Rattle.group_parts.proofs.Served.{stands_on}
-use Rattle.group_parts.specs.Kept.{KeptParts, StandsFor, TakesOut, kept_part}
+use Rattle.group_parts.specs.Kept.{KeptParts, StandsFor, TakesPart, kept_part}
 use Rattle.group_parts.specs.Parts.{PrivatePart, is_private, is_public, part_in, part_of, public_part, public_process}
 use Rattle.group_parts.specs.Served.{public_ended, stays_for}
 use Rattle.pipes_socks.specs.declared.streams.Pair.{Pair}
@@ -251,7 +251,7 @@ module _ (g : Group) (valid : GroupIsValid g) (pid : ℕ) (p : Proc) (is : runne
 
 -- A STEP THAT ENDS THE PROCESS
 pub end_served : (durable : Bool) (leases : List Lease) (k : KeptParts) (g : Group) (pid : ℕ) (p : Proc) → StandsFor leases k g → GroupIsValid g → runner g pid ≡ Some p → is_unleased leases pid ≡ true → (status : ℕ) (here : List (ℕ × PrivatePart))
-    → group_step durable g pid ≡ ended g p status → TakesOut k.here here pid → StandsFor leases (record { public = public_ended k.public p status; here = here }) (group_step durable g pid)
+    → group_step durable g pid ≡ ended g p status → TakesPart k.here here pid → StandsFor leases (record { public = public_ended k.public p status; here = here }) (group_step durable g pid)
 end_served durable leases k g pid p stands valid is free status here step takes =
     stands_on leases k (record { public = public_ended k.public p status; here = here }) g (group_step durable g pid) pid stands free (λ q differ. steps_leave_others durable g pid q valid differ)
     (ap (λ (x : Group). public_ended x p status) stands.public ∙ sym (public_of_end g valid pid p is status) ∙ ap public_part (sym step))

@@ -15,7 +15,7 @@ use Rattle.group_parts.proofs.LeaseSteps.{lease_begins}
 use Rattle.group_parts.proofs.LocalPages.{steps_touch}
 use Rattle.group_parts.proofs.LocalSteps.{all_local_in_group, local_in_group, steps_change}
 use Rattle.group_parts.proofs.Unleased.{unleased_taken, unleased_turned}
-use Rattle.group_parts.specs.Kept.{KeptParts, Puts, StandsFor, TakesOut, all_parts, kept_part, parts_in}
+use Rattle.group_parts.specs.Kept.{KeptParts, PutsPart, StandsFor, TakesPart, all_parts, kept_part, parts_in}
 use Rattle.group_parts.specs.Leases.{IsLeaseOf, LeasedOnce, LeasesStand, MayEnd}
 use Rattle.group_parts.specs.Local.{OnlyPartChanges, is_local_part, pages_of_steps}
 use Rattle.group_parts.specs.Parts.{IsApart, PrivatePart, part_in, part_of, public_part}
@@ -42,7 +42,7 @@ unfolding part_of runner
 all_stand g = record { public = refl; here = λ q. here_is g g.frame.procs q }
 
 -- A lease goes out: its process's private part is here no more, and the lease has it.
-stands_taken : (leases : List Lease) (k : KeptParts) (g : Group) (here : List (ℕ × PrivatePart)) (lease : Lease) → StandsFor leases k g → TakesOut k.here here lease.pid → StandsFor (leases ++ lease ∷ []) (record k { here = here }) g
+stands_taken : (leases : List Lease) (k : KeptParts) (g : Group) (here : List (ℕ × PrivatePart)) (lease : Lease) → StandsFor leases k g → TakesPart k.here here lease.pid → StandsFor (leases ++ lease ∷ []) (record k { here = here }) g
 stands_taken leases k g here lease stands takes = record {
   public = stands.public;
   here = λ q. takes q ∙ by_pid q (lease.pid == q) ∙ sym (ap (λ (t : Bool). if t then part_of g q else None) (unleased_taken leases lease q));
@@ -55,7 +55,7 @@ stands_taken leases k g here lease stands takes = record {
     by_pid : (q : ℕ) (t : Bool) → (if t then None else kept_part k.here q) ≡ (if (if t then false else is_unleased leases q) then part_of g q else None)
     by_pid q t = ap (λ (o : Option PrivatePart). if t then None else o) (stands.here q) ∙ by_tests t (is_unleased leases q) (part_of g q)
 
-pub take_stands : (limits : Limits) (r : Progress) (k : KeptParts) (worker pid : ℕ) (here : List (ℕ × PrivatePart)) → StandsFor r.leases k r.state.group → TakesOut k.here here pid
+pub take_stands : (limits : Limits) (r : Progress) (k : KeptParts) (worker pid : ℕ) (here : List (ℕ × PrivatePart)) → StandsFor r.leases k r.state.group → TakesPart k.here here pid
     → StandsFor (after_mark limits.quantum r (Take worker pid)).leases (record k { here = here }) (after_mark limits.quantum r (Take worker pid)).state.group
 take_stands limits r k worker pid here stands takes = stands_taken r.leases k r.state.group here (record { worker = worker; pid = pid; moved = false }) stands takes
 
@@ -67,7 +67,7 @@ take_begins limits r k worker pid part stands allowed has = lease_begins r.state
 
 -- A lease comes back after its local steps.
 pub stands_back : (leases : List Lease) (k : KeptParts) (g h : Group) (here : List (ℕ × PrivatePart)) (worker pid : ℕ) (did : Bool) (part : PrivatePart) → StandsFor leases k g → OnlyPartChanges pid g h part
-    → LeasedOnce leases → list_any (is_lease worker pid) leases ≡ true → Puts k.here here pid part → StandsFor (leases_after_turn worker pid did leases) (record k { here = here }) h
+    → LeasedOnce leases → list_any (is_lease worker pid) leases ≡ true → PutsPart k.here here pid part → StandsFor (leases_after_turn worker pid did leases) (record k { here = here }) h
 stands_back leases k g h here worker pid did part stands change once out puts = record {
   public = stands.public ∙ sym change.public;
   here = λ q. puts q ∙ by_pid q (pid == q) refl ∙ sym (ap (λ (t : Bool). if t then part_of h q else None) (unleased_turned leases worker pid did q once out));
@@ -124,11 +124,11 @@ module _ (r : Progress) (worker pid done : ℕ) (part : PrivatePart) (stand : Le
       no_more (inr short) less = local_in_group (steps_of r.state pid done).group pid part (lease_changes r.state pid done part apart lease).part_is ∙ short.1
 
   -- what stands once it is back, before the step behind its local ones
-  pub back_stands : (k : KeptParts) (here : List (ℕ × PrivatePart)) (did : Bool) → StandsFor r.leases k r.state.group → Puts k.here here pid part → StandsFor (leases_after_turn worker pid did r.leases) (record k { here = here }) (steps_of r.state pid done).group
+  pub back_stands : (k : KeptParts) (here : List (ℕ × PrivatePart)) (did : Bool) → StandsFor r.leases k r.state.group → PutsPart k.here here pid part → StandsFor (leases_after_turn worker pid did r.leases) (record k { here = here }) (steps_of r.state pid done).group
   back_stands k here did stands puts = stands_back r.leases k r.state.group (steps_of r.state pid done).group here worker pid did part stands (lease_changes r.state pid done part apart lease) stand.once out puts
 
   -- and at the quantum, where that is all
-  whole : (limits : Limits) (k : KeptParts) (here : List (ℕ × PrivatePart)) → done ≡ limits.quantum → StandsFor r.leases k r.state.group → Puts k.here here pid part
+  whole : (limits : Limits) (k : KeptParts) (here : List (ℕ × PrivatePart)) → done ≡ limits.quantum → StandsFor r.leases k r.state.group → PutsPart k.here here pid part
       → StandsFor (after_mark limits.quantum r (Turn worker pid done)).leases (record k { here = here }) (after_mark limits.quantum r (Turn worker pid done)).state.group
   whole limits k here same stands puts =
       let P : ℕ → Type 0 = λ n. StandsFor (leases_after_turn worker pid (does_something r.state pid done) r.leases) (record k { here = here }) (steps_of r.state pid n).group in
@@ -139,7 +139,7 @@ pub turn_allowed : (limits : Limits) (r : Progress) (worker pid done : ℕ) (par
 turn_allowed limits r worker pid done part stand apart out lease ends = turns r worker pid done part stand apart out lease limits ends
 
 pub whole_stands : (limits : Limits) (r : Progress) (worker pid done : ℕ) (part : PrivatePart) (k : KeptParts) (here : List (ℕ × PrivatePart)) → LeasesStand r → IsApart r.state.group → IsTrue (list_any (is_lease worker pid) r.leases) → IsLeaseOf r.state.group pid done part → done ≡ limits.quantum
-    → StandsFor r.leases k r.state.group → Puts k.here here pid part → StandsFor (after_mark limits.quantum r (Turn worker pid done)).leases (record k { here = here }) (after_mark limits.quantum r (Turn worker pid done)).state.group
+    → StandsFor r.leases k r.state.group → PutsPart k.here here pid part → StandsFor (after_mark limits.quantum r (Turn worker pid done)).leases (record k { here = here }) (after_mark limits.quantum r (Turn worker pid done)).state.group
 whole_stands limits r worker pid done part k here stand apart out lease same stands puts = whole r worker pid done part stand apart out lease limits k here same stands puts
 
 pub whole_touches : (limits : Limits) (r : Progress) (worker pid done : ℕ) (part : PrivatePart) → IsApart r.state.group → (lease : IsLeaseOf r.state.group pid done part) → done ≡ limits.quantum → (after_mark limits.quantum r (Turn worker pid done)).touched ≡ r.touched ++ pages_of_steps lease.taken done

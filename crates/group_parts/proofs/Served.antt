@@ -18,7 +18,7 @@ use Rattle.group_parts.proofs.LocalSteps.{same_private, same_processes}
 use Rattle.group_parts.proofs.Memory.{Memory, kept_in, kept_writes}
 use Rattle.group_parts.proofs.NoneStarts.{steps_leave_others}
 use Rattle.group_parts.proofs.OthersParts.{parts}
-use Rattle.group_parts.specs.Kept.{KeptParts, Puts, StandsFor, kept_part}
+use Rattle.group_parts.specs.Kept.{KeptParts, PutsPart, StandsFor, kept_part}
 use Rattle.group_parts.specs.Local.{continued_part}
 use Rattle.group_parts.specs.Parts.{PrivatePart, is_public, part_in, part_of, private_memory, public_part, public_process}
 use Rattle.group_parts.specs.Served.{stored_in}
@@ -77,7 +77,7 @@ module _ (g : Group) (pid : ℕ) (p : Proc) (is : runner g pid ≡ Some p) (h : 
 
 module _ (durable : Bool) (leases : List Lease) (k : KeptParts) (g : Group) (pid : ℕ) (p : Proc) (stands : StandsFor leases k g) (valid : GroupIsValid g) (is : runner g pid ≡ Some p) (free : is_unleased leases pid ≡ true) where
   goes_on : (h : Group) (r : Regs) (writes : List Write) (public : Group) (here : List (ℕ × PrivatePart)) → h.frame.procs ≡ g.frame.procs → private_memory h.memory p.maps ≡ private_memory g.memory p.maps → group_step durable g pid ≡ continued (written h p writes) p r
-      → public ≡ public_part h → Puts k.here here pid (continued_part (part_in g p) r writes) → StandsFor leases (record { public = stored_in public p.maps writes; here = here }) (group_step durable g pid)
+      → public ≡ public_part h → PutsPart k.here here pid (continued_part (part_in g p) r writes) → StandsFor leases (record { public = stored_in public p.maps writes; here = here }) (group_step durable g pid)
   goes_on h r writes public here procs own step same puts =
       stands_on leases k (record { public = stored_in public p.maps writes; here = here }) g (group_step durable g pid) pid stands free (λ q differ. steps_leave_others durable g pid q valid differ)
       (ap (λ (x : Group). stored_in x p.maps writes) same ∙ sym (public_continued g pid p is h procs own r writes) ∙ ap public_part (sym step))
@@ -87,18 +87,18 @@ module _ (durable : Bool) (leases : List Lease) (k : KeptParts) (g : Group) (pid
   step_of : group_step durable g pid ≡ after_effect durable g p (effect_in g p)
   step_of = (step_is durable g pid).1 p is
 
-  pub instruction_served : (r : Regs) (stored : Option Write) (here : List (ℕ × PrivatePart)) → effect_in g p ≡ steps r stored → Puts k.here here pid (continued_part (part_in g p) r (list_of stored))
+  pub instruction_served : (r : Regs) (stored : Option Write) (here : List (ℕ × PrivatePart)) → effect_in g p ≡ steps r stored → PutsPart k.here here pid (continued_part (part_in g p) r (list_of stored))
       → StandsFor leases (record { public = stored_in k.public p.maps (list_of stored); here = here }) (group_step durable g pid)
   instruction_served r stored here e puts = goes_on g r (list_of stored) k.public here refl refl (step_of ∙ ap (after_effect durable g p) e) stands.public puts
 
   pub wait_served : effect_in g p ≡ calls → reply_to durable g p ≡ waits → StandsFor leases k (group_step durable g pid)
   wait_served e reply = subst (StandsFor leases k) (sym (step_of ∙ ap (after_effect durable g p) e ∙ ap (after_reply g p) reply)) stands
 
-  pub refusal_served : (errno : ℕ) (here : List (ℕ × PrivatePart)) → effect_in g p ≡ calls → reply_to durable g p ≡ refuses errno → Puts k.here here pid (record (part_in g p) { regs = answered (regs_of p) (2 ^ 64 - errno) })
+  pub refusal_served : (errno : ℕ) (here : List (ℕ × PrivatePart)) → effect_in g p ≡ calls → reply_to durable g p ≡ refuses errno → PutsPart k.here here pid (record (part_in g p) { regs = answered (regs_of p) (2 ^ 64 - errno) })
       → StandsFor leases (record k { here = here }) (group_step durable g pid)
   unfolding with_writes
   refusal_served errno here e reply puts = goes_on g (answered (regs_of p) (2 ^ 64 - errno)) [] k.public here refl refl (step_of ∙ ap (after_effect durable g p) e ∙ ap (after_reply g p) reply) stands.public puts
 
   pub answer_served : (value : ℕ) (h : Group) (writes : List Write) (public : Group) (here : List (ℕ × PrivatePart)) → effect_in g p ≡ calls → reply_to durable g p ≡ answers value h writes → h.frame.procs ≡ g.frame.procs → private_memory h.memory p.maps ≡ private_memory g.memory p.maps
-      → public ≡ public_part h → Puts k.here here pid (continued_part (part_in g p) (answered (regs_of p) value) writes) → StandsFor leases (record { public = stored_in public p.maps writes; here = here }) (group_step durable g pid)
+      → public ≡ public_part h → PutsPart k.here here pid (continued_part (part_in g p) (answered (regs_of p) value) writes) → StandsFor leases (record { public = stored_in public p.maps writes; here = here }) (group_step durable g pid)
   answer_served value h writes public here e reply procs own same puts = goes_on h (answered (regs_of p) value) writes public here procs own (step_of ∙ ap (after_effect durable g p) e ∙ ap (after_reply g p) reply) same puts

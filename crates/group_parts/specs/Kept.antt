@@ -30,13 +30,13 @@ abbrev pub all_parts : Group → KeptParts
 all_parts g = record { public = public_part g; here = parts_in g g.frame.procs }
 
 -- One part is put in the place of its process's, or added, and all others stay; or it is taken out.
-abbrev pub Puts : List (ℕ × PrivatePart) → List (ℕ × PrivatePart) → ℕ → PrivatePart → Type 0
-Puts old new pid part = (other : ℕ) → kept_part new other ≡ (if pid == other then Some part else kept_part old other)
+abbrev pub PutsPart : List (ℕ × PrivatePart) → List (ℕ × PrivatePart) → ℕ → PrivatePart → Type 0
+PutsPart old new pid part = (other : ℕ) → kept_part new other ≡ (if pid == other then Some part else kept_part old other)
 
-abbrev pub TakesOut : List (ℕ × PrivatePart) → List (ℕ × PrivatePart) → ℕ → Type 0
-TakesOut old new pid = (other : ℕ) → kept_part new other ≡ (if pid == other then None else kept_part old other)
+abbrev pub TakesPart : List (ℕ × PrivatePart) → List (ℕ × PrivatePart) → ℕ → Type 0
+TakesPart old new pid = (other : ℕ) → kept_part new other ≡ (if pid == other then None else kept_part old other)
 
--- A process's row of the public part with its private part in it, where that is here; and all rows.
+-- a process's row of the public part with this private part in it, and with the one that is here
 abbrev pub filled : Option PrivatePart → Proc → Proc
 filled None p = p
 filled (Some part) p = record p { pc = part.regs.pc; regs = part.regs.x; maps = part.maps }

@@ -31,9 +31,10 @@ pub record LeasesStand (r : Progress) : Type 0 where
   pub once : LeasedOnce r.leases
   pub may_end : All (MayEnd r) r.leases
 
--- From r to r' this lease is still out, and its part is still one of its process in the group; no page of an object that it maps
--- privately was touched, and no barrier was made.
+-- From r to r' this lease is still out, its process's private part in the group stayed, and so its own part is still one of it; no
+-- page of an object that it maps privately was touched, and no barrier was made.
 pub record LeavesLease (r r' : Progress) (worker pid done : ℕ) (part : PrivatePart) : Type 0 where
+  pub stays : part_of r'.state.group pid ≡ part_of r.state.group pid
   pub lease : IsLeaseOf r'.state.group pid done part
   pub out : IsTrue (list_any (is_lease worker pid) r'.leases)
   pub touched : (object page : ℕ) → maps_privately part.maps object ≡ true → is_among r'.touched (object, page) ≡ is_among r.touched (object, page)

@@ -13,7 +13,7 @@ ghost use Rattle.group_defs.specs.Step.{after_reply, call_in, do_step, effect_in
 ghost use Rattle.group_defs.specs.Valid.{GroupIsValid};
 ghost use Rattle.group_defs.specs.declared.calls.TheConstants.{CLONE};
 ghost use Rattle.group_defs.specs.declared.frame.Proc.{Proc};
-ghost use Rattle.group_parts.specs.Kept.{KeptParts, Puts, StandsFor, TakesOut, all_parts, filled, kept_part, with_part};
+ghost use Rattle.group_parts.specs.Kept.{KeptParts, PutsPart, StandsFor, TakesPart, all_parts, filled, kept_part, with_part};
 ghost use Rattle.group_parts.specs.Leases.{IsLeaseOf, LeasesStand, LeavesLease};
 ghost use Rattle.group_parts.specs.Local.{AllLocalPart, OnlyPartChanges, continued_part, is_local_part, local_steps, pages_of_steps};
 ghost use Rattle.group_parts.specs.Marks.{AreAllowed, is_turn_by, is_turn_of};
@@ -125,7 +125,7 @@ pub fn starts()
 pub fn takes()
     ensures stands { (limits : Limits) (r : Progress) (k : KeptParts) (worker pid : ℕ)
         (here : List (ℕ × PrivatePart)) → StandsFor r.leases k r.state.group
-        → TakesOut k.here here pid
+        → TakesPart k.here here pid
         → let r' = after_mark limits.quantum r (Take worker pid) in
         StandsFor r'.leases (record k { here = here }) r'.state.group }
     ensures lease { (limits : Limits) (r : Progress) (k : KeptParts) (worker pid : ℕ)
@@ -149,7 +149,7 @@ pub fn gives()
     ensures whole { (limits : Limits) (r : Progress) (worker pid done : ℕ) (part : PrivatePart)
         (k : KeptParts) (here : List (ℕ × PrivatePart)) → LeasesStand r → IsApart r.state.group
         → IsTrue (list_any (is_lease worker pid) r.leases) → IsLeaseOf r.state.group pid done part
-        → done ≡ limits.quantum → StandsFor r.leases k r.state.group → Puts k.here here pid part
+        → done ≡ limits.quantum → StandsFor r.leases k r.state.group → PutsPart k.here here pid part
         → let r' = after_mark limits.quantum r (Turn worker pid done) in
         StandsFor r'.leases (record k { here = here }) r'.state.group }
     ensures touched { (limits : Limits) (r : Progress) (worker pid done : ℕ) (part : PrivatePart)
@@ -159,7 +159,7 @@ pub fn gives()
     ensures back { (r : Progress) (worker pid done : ℕ) (part : PrivatePart) (k : KeptParts)
         (here : List (ℕ × PrivatePart)) (did : Bool) → LeasesStand r → IsApart r.state.group
         → IsTrue (list_any (is_lease worker pid) r.leases) → IsLeaseOf r.state.group pid done part
-        → StandsFor r.leases k r.state.group → Puts k.here here pid part
+        → StandsFor r.leases k r.state.group → PutsPart k.here here pid part
         → StandsFor (leases_after_turn worker pid did r.leases) (record k { here = here })
         (steps_of r.state pid done).group }
     ensures short { (limits : Limits) (s : State) (pid n : ℕ) → n < limits.quantum
@@ -217,7 +217,7 @@ pub fn steps_served()
         (pid : ℕ) (p : Proc) → StandsFor leases k g → GroupIsValid g → runner g pid ≡ Some p
         → is_unleased leases pid ≡ true → (r : Regs) (stored : Option Write)
         (here : List (ℕ × PrivatePart)) → effect_in g p ≡ steps r stored
-        → Puts k.here here pid (continued_part (part_in g p) r (list_of stored))
+        → PutsPart k.here here pid (continued_part (part_in g p) r (list_of stored))
         → StandsFor leases (record {
           public = stored_in k.public p.maps (list_of stored);
           here = here;
@@ -229,7 +229,7 @@ pub fn steps_served()
     ensures refusal { (durable : Bool) (leases : List Lease) (k : KeptParts) (g : Group)
         (pid : ℕ) (p : Proc) → StandsFor leases k g → GroupIsValid g → runner g pid ≡ Some p
         → is_unleased leases pid ≡ true → (errno : ℕ) (here : List (ℕ × PrivatePart))
-        → effect_in g p ≡ calls → reply_to durable g p ≡ refuses errno → Puts k.here here pid
+        → effect_in g p ≡ calls → reply_to durable g p ≡ refuses errno → PutsPart k.here here pid
         (record (part_in g p) { regs = answered (regs_of p) (2 ^ 64 - errno) })
         → StandsFor leases (record k { here = here }) (group_step durable g pid) }
     ensures answer { (durable : Bool) (leases : List Lease) (k : KeptParts) (g : Group)
@@ -238,14 +238,14 @@ pub fn steps_served()
         (public : Group) (here : List (ℕ × PrivatePart)) → effect_in g p ≡ calls
         → reply_to durable g p ≡ answers value h writes → h.frame.procs ≡ g.frame.procs
         → private_memory h.memory p.maps ≡ private_memory g.memory p.maps
-        → public ≡ public_part h → Puts k.here here pid
+        → public ≡ public_part h → PutsPart k.here here pid
         (continued_part (part_in g p) (answered (regs_of p) value) writes)
         → StandsFor leases (record { public = stored_in public p.maps writes; here = here })
         (group_step durable g pid) }
     ensures end { (durable : Bool) (leases : List Lease) (k : KeptParts) (g : Group) (pid : ℕ)
         (p : Proc) → StandsFor leases k g → GroupIsValid g → runner g pid ≡ Some p
         → is_unleased leases pid ≡ true → (status : ℕ) (here : List (ℕ × PrivatePart))
-        → group_step durable g pid ≡ ended g p status → TakesOut k.here here pid
+        → group_step durable g pid ≡ ended g p status → TakesPart k.here here pid
         → StandsFor leases (record { public = public_ended k.public p status; here = here })
         (group_step durable g pid) }
 {}
