@@ -1,24 +1,30 @@
 -- What is kept of a process without a lease tells the process, and the bytes of objects.
-use Rattle.std.proofs.Common.{Bool, List, Some, [], ap, false, get_or, map, not, refl, sym, true, ℕ, ◌&&◌, ◌==◌, ◌∙◌, ◌∷◌, ◌≡◌}
-use Rattle.std.proofs.lemmas.Bool.{and_parts, eq-eqb}
+use Rattle.std.proofs.Common.{Bool, List, None, Option, Some, [], ap, false, get_or, inl, inr, map, not, refl, sym, true, ℕ, ◌&&◌, ◌==◌, ◌∙◌, ◌∷◌, ◌≡◌, ◌⊎◌}
+use Rattle.std.proofs.lemmas.Bool.{and_parts, eq-eqb, false≢true}
 use Rattle.std.proofs.lemmas.List.Elements.{All-filter, All-map}
 use Rattle.std.specs.List.{list_any}
 use Rattle.std.specs.Option.{option_map}
-use Rattle.std.specs.Prelude.{All, filter, find, if◌then◌else◌}
+use Rattle.std.specs.Prelude.{All, Any, filter, find, if◌then◌else◌}
 use Rattle.group_defs.specs.Cells.{bytes_in}
 use Rattle.group_defs.specs.Fork.{maps_privately}
 use Rattle.group_defs.specs.Group.{Group, is_runner, is_running, runner}
 use Rattle.group_defs.specs.Step.{is_waiting}
+use Rattle.address_maps.specs.declared.maps.Mapping.{Mapping}
+use Rattle.group_defs.specs.Valid.{GroupIsValid}
+use Rattle.group_defs.specs.declared.frame.ObjectRec.{ObjectRec}
 use Rattle.group_defs.specs.declared.frame.Proc.{Proc}
 use Rattle.group_laws.proofs.Inside.{found_has}
-use Rattle.group_laws.proofs.Lists.{all_filter, any_at, true_any}
+use Rattle.group_laws.proofs.Lists.{all_filter, any_all, any_at, any_true, any_weaker, true_any}
 use Rattle.group_laws.proofs.ObjectBytes.{kept_bytes}
+use Rattle.group_laws.proofs.WriteFileLaws.{zip_there}
 use Rattle.group_parts.proofs.KeptLaws.{here_part}
 use Rattle.group_parts.proofs.LeaseLists.{next_has, taken_unleased}
+use Rattle.group_parts.proofs.Memory.{kept_in}
 use Rattle.group_parts.proofs.OthersParts.{behind}
-use Rattle.group_parts.proofs.Runners.{some_found}
+use Rattle.group_parts.proofs.Runners.{ended_maps, runner_found, some_found}
+use Rattle.group_parts.proofs.Sight.{bytes_at, gone_entry, kept_entry}
 use Rattle.group_parts.specs.Kept.{KeptParts, StandsFor, filled, kept_part}
-use Rattle.group_parts.specs.Parts.{PrivatePart, is_public, part_in, part_of, public_part, public_process, shared_mappings}
+use Rattle.group_parts.specs.Parts.{PrivatePart, is_private, is_public, part_in, part_of, public_part, public_process, shared_mappings}
 use Rattle.run_defs.specs.Legal.{TakeAllowed, is_unleased, ready}
 use Rattle.run_defs.specs.Progress.{Lease, Progress}
 use Rattle.run_defs.specs.declared.run.Limits.{Limits}
@@ -85,6 +91,40 @@ private_bytes leases k g pid object part stands free here own =
     let (p, found, same) = behind g pid part (sym (here_part leases k g pid stands free) ∙ here) in
     ap (λ (s : PrivatePart). bytes_in s.memory object) (sym same) ∙ kept_bytes (maps_privately p.maps) object g.memory (ap (λ (s : PrivatePart). maps_privately s.maps object) same ∙ own)
 
-pub public_bytes : (leases : List Lease) (k : KeptParts) (g : Group) (object : ℕ) → StandsFor leases k g → is_public g.frame.procs object ≡ true → bytes_in k.public.memory object ≡ bytes_in g.memory object
+pub public_bytes : (leases : List Lease) (k : KeptParts) (g : Group) (object : ℕ) (entry : ℕ × List ℕ) → StandsFor leases k g → find (λ o. o.0 == object) k.public.memory ≡ Some entry → bytes_in g.memory object ≡ entry.1
 unfolding public_part
-public_bytes leases k g object stands open_to_all = ap (λ (x : Group). bytes_in x.memory object) stands.public ∙ kept_bytes (is_public g.frame.procs) object g.memory open_to_all
+public_bytes leases k g object entry stands there = by_test (is_public g.frame.procs object) refl
+  where
+    its : find (λ o. o.0 == object) (kept_in (is_public g.frame.procs) g.memory) ≡ Some entry
+    its = ap (λ (x : Group). find (λ o. o.0 == object) x.memory) (sym stands.public) ∙ there
+
+    by_test : (b : Bool) → is_public g.frame.procs object ≡ b → bytes_in g.memory object ≡ entry.1
+    by_test true e = ap bytes_at (sym (kept_entry (is_public g.frame.procs) g.memory object e) ∙ its)
+    by_test false e = let none : None ≡ Some entry = sym (gone_entry (is_public g.frame.procs) g.memory object e) ∙ its in absurd (cc)
+
+-- With no lease out each object of the group is in one of the parts.
+pub each_object : (k : KeptParts) (g : Group) (o : ObjectRec) → StandsFor [] k g → GroupIsValid g → Any (λ x. x ≡ o) g.frame.objects
+    → ((entry : ℕ × List ℕ) × (find (λ e. e.0 == o.number) k.public.memory ≡ Some entry)) ⊎ ((pid : ℕ) × (part : PrivatePart) × (kept_part k.here pid ≡ Some part) × (maps_privately part.maps o.number ≡ true))
+unfolding public_part part_of runner
+each_object k g o stands valid there = by_test (is_private g.frame.procs o.number) refl
+  where
+    entry : (x : Option (ℕ × List ℕ)) → find (λ e. e.0 == o.number) g.memory ≡ x → (e : ℕ × List ℕ) × (find (λ e. e.0 == o.number) g.memory ≡ Some e)
+    entry None e = absurd (zip_there g.frame.objects g.memory o.number valid.sound.memory.bytes (any_weaker (λ x. x ≡ o) (λ x. x.number ≡ o.number) g.frame.objects (λ x same. ap (λ (y : ObjectRec). y.number) same) there) e)
+    entry (Some x) e = (x, e)
+
+    owner : Any (λ q. (maps_privately q.maps o.number ≡ true) × (is_running q ≡ false → q.maps ≡ [])) g.frame.procs → (pid : ℕ) × (part : PrivatePart) × (kept_part k.here pid ≡ Some part) × (maps_privately part.maps o.number ≡ true)
+    owner (i, q, lt, at, both) =
+        let runs : is_running q ≡ true = running (is_running q) refl in
+        let found = runner_found g.frame.procs q valid.sound.frame.procs.rise (i, q, lt, at, refl) runs in
+        (q.pid, part_in g q, stands.here q.pid ∙ ap (option_map (part_in g)) found, both.0)
+      where
+        running : (b : Bool) → is_running q ≡ b → b ≡ true
+        running true e = refl
+        running false e = absurd (false≢true (sym (ap (λ (l : List Mapping). maps_privately l o.number) (both.1 e)) ∙ both.0))
+
+    by_test : (b : Bool) → is_private g.frame.procs o.number ≡ b → ((e : ℕ × List ℕ) × (find (λ e. e.0 == o.number) k.public.memory ≡ Some e)) ⊎ ((pid : ℕ) × (part : PrivatePart) × (kept_part k.here pid ≡ Some part) × (maps_privately part.maps o.number ≡ true))
+    by_test false e =
+        let its = entry (find (λ e. e.0 == o.number) g.memory) refl in
+        inl (its.0, ap (λ (x : Group). find (λ e. e.0 == o.number) x.memory) stands.public ∙ kept_entry (is_public g.frame.procs) g.memory o.number (ap not e) ∙ its.1)
+    by_test true e =
+        inr (owner (any_all (λ q. maps_privately q.maps o.number ≡ true) (λ q. is_running q ≡ false → q.maps ≡ []) g.frame.procs (any_true (λ q. maps_privately q.maps o.number) g.frame.procs e) (ended_maps g valid)))

@@ -27,7 +27,7 @@ use Rattle.group_parts.proofs.Numbered.{zip_numbers}
 use Rattle.group_parts.proofs.EndRows.{any_left, none_runs, rows_at, rows_map, rows_same, unmapped_all, unmapped_private}
 use Rattle.group_parts.proofs.LocalSteps.{runner_private}
 use Rattle.group_parts.proofs.Memory.{Memory, kept_in}
-use Rattle.group_parts.proofs.NoneStarts.{steps_leave_others}
+use Rattle.group_parts.proofs.NoneStarts.{end_rests, others_by}
 use Rattle.group_parts.proofs.Runners.{ended_maps, runner_found}
 use Rattle.group_parts.proofs.Served.{stands_on}
 use Rattle.group_parts.specs.Kept.{KeptParts, StandsFor, TakesPart, kept_part}
@@ -252,8 +252,12 @@ module _ (g : Group) (valid : GroupIsValid g) (pid : ℕ) (p : Proc) (is : runne
 -- A STEP THAT ENDS THE PROCESS
 pub end_served : (durable : Bool) (leases : List Lease) (k : KeptParts) (g : Group) (pid : ℕ) (p : Proc) → StandsFor leases k g → GroupIsValid g → runner g pid ≡ Some p → is_unleased leases pid ≡ true → (status : ℕ) (here : List (ℕ × PrivatePart))
     → group_step durable g pid ≡ ended g p status → TakesPart k.here here pid → StandsFor leases (record { public = public_ended k.public p status; here = here }) (group_step durable g pid)
+unfolding runner
 end_served durable leases k g pid p stands valid is free status here step takes =
-    stands_on leases k (record { public = public_ended k.public p status; here = here }) g (group_step durable g pid) pid stands free (λ q differ. steps_leave_others durable g pid q valid differ)
+    stands_on leases k (record { public = public_ended k.public p status; here = here }) g (group_step durable g pid) pid stands free others
     (ap (λ (x : Group). public_ended x p status) stands.public ∙ sym (public_of_end g valid pid p is status) ∙ ap public_part (sym step))
     (takes pid ∙ ap (λ (t : Bool). if t then None else kept_part k.here pid) (eq-eqb pid pid refl) ∙ sym (ap (λ (x : Group). part_of x pid) step ∙ part_of_end g valid pid p is status))
     (λ q differ. takes q ∙ ap (λ (t : Bool). if t then None else kept_part k.here q) differ)
+  where
+    others : (q : ℕ) → (pid == q) ≡ false → part_of (group_step durable g pid) q ≡ part_of g q
+    others q differ = others_by durable g pid q valid differ (λ none. ap (λ (h : Group). runner h q) step ∙ end_rests durable g p q (ap (λ k. k == q) (found_pid g.frame.procs pid p is) ∙ differ) none status)

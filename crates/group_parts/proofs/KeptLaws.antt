@@ -7,7 +7,8 @@ use Rattle.std.specs.List.{list_any}
 use Rattle.std.specs.Option.{option_map}
 use Rattle.std.specs.Prelude.{All, IsTrue, find, if◌then◌else◌}
 use Rattle.group_defs.specs.Group.{Group, is_runner, is_running, runner}
-use Rattle.group_defs.specs.Standing.{State, group_barrier}
+use Rattle.group_defs.specs.Pages.{touched_with_step}
+use Rattle.group_defs.specs.Standing.{State, group_barrier, is_durable}
 use Rattle.group_defs.specs.Step.{do_step, is_local, is_waiting}
 use Rattle.group_defs.specs.declared.frame.Proc.{Proc}
 use Rattle.group_parts.proofs.LeaseLists.{taken_unleased}
@@ -154,6 +155,17 @@ short_turn limits s pid n less = by_test (n == limits.quantum) refl
     by_test : (t : Bool) → (n == limits.quantum) ≡ t → steps_of s pid (if t then n else suc n) ≡ do_step (steps_of s pid n) pid
     by_test true e = let same = eqb-true n limits.quantum e in absurd (omega (arith, same, less))
     by_test false e = refl
+
+pub short_touches : (limits : Limits) (r : Progress) (worker pid done : ℕ) (part : PrivatePart) → IsApart r.state.group → (lease : IsLeaseOf r.state.group pid done part) → done < limits.quantum
+    → (after_mark limits.quantum r (Turn worker pid done)).touched ≡ touched_with_step (is_durable (steps_of r.state pid done).standing pid) (steps_of r.state pid done).group pid (r.touched ++ pages_of_steps lease.taken done)
+unfolding touched_with_steps
+short_touches limits r worker pid done part apart lease less =
+    ap (λ (t : Bool). touched_with_steps r.state pid (if t then done else suc done) r.touched) (other (done == limits.quantum) refl)
+    ∙ ap (touched_with_step (is_durable (steps_of r.state pid done).standing pid) (steps_of r.state pid done).group pid) (steps_touch r.state pid lease.taken done r.touched apart lease.taken_is lease.all_local)
+  where
+    other : (b : Bool) → (done == limits.quantum) ≡ b → b ≡ false
+    other false e = refl
+    other true e = let same = eqb-true done limits.quantum e in absurd (omega (arith, same, less))
 
 -- A barrier leaves all but the output.
 pub barrier_stands : (leases : List Lease) (k : KeptParts) (g : Group) → StandsFor leases k g → StandsFor leases (record k { public = group_barrier k.public }) (group_barrier g)

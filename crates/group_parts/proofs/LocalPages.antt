@@ -8,7 +8,7 @@ use Rattle.group_defs.specs.Step.{effect_in}
 use Rattle.group_defs.specs.declared.frame.Proc.{Proc}
 use Rattle.group_parts.proofs.LocalSteps.{effect_seen, steps_change}
 use Rattle.group_parts.proofs.OthersParts.{behind}
-use Rattle.group_parts.specs.Local.{AllLocalPart, is_local_part, local_steps, pages_of_step, pages_of_steps, part_effect, writes_of_effect}
+use Rattle.group_parts.specs.Local.{AllLocalPart, is_local_part, steps_of_part, pages_of_step, pages_of_steps, part_effect, writes_of_effect}
 use Rattle.group_parts.specs.Parts.{IsApart, PrivatePart, part_in, part_of}
 use Rattle.run_defs.specs.Touched.{touched_with_steps}
 use Rattle.run_defs.specs.Turns.{steps_of}
@@ -35,5 +35,5 @@ steps_touch s pid part zero so_far apart is all = sym (append-nil so_far)
 steps_touch s pid part (suc n) so_far apart is all =
     let at : State = steps_of s pid n in
     ap (touched_with_step (is_durable at.standing pid) at.group pid) (steps_touch s pid part n so_far apart is all.0)
-    ∙ step_touches (is_durable at.standing pid) at.group pid (local_steps part n) (so_far ++ pages_of_steps part n) (steps_change s pid part n apart is all.0).part_is all.1
-    ∙ append_assoc so_far (pages_of_steps part n) (pages_of_step (local_steps part n))
+    ∙ step_touches (is_durable at.standing pid) at.group pid (steps_of_part part n) (so_far ++ pages_of_steps part n) (steps_change s pid part n apart is all.0).part_is all.1
+    ∙ append_assoc so_far (pages_of_steps part n) (pages_of_step (steps_of_part part n))

@@ -24,7 +24,7 @@ use Rattle.group_laws.proofs.StepLaws.{local_is_private}
 use Rattle.group_parts.proofs.Memory.{EachAt, EachOf, Memory, all_mapped, kept_in, kept_writes, missed_writes}
 use Rattle.group_parts.proofs.OthersParts.{behind, parts}
 use Rattle.group_parts.proofs.States.{step_group}
-use Rattle.group_parts.specs.Local.{AllLocalPart, OnlyPartChanges, is_local_part, local_step, local_steps, part_after, part_effect}
+use Rattle.group_parts.specs.Local.{AllLocalPart, OnlyPartChanges, is_local_part, step_of_part, steps_of_part, part_after, part_effect}
 use Rattle.group_parts.specs.Parts.{IsApart, PrivatePart, is_private, is_public, part_in, part_of, private_memory, public_part, public_process, shared_mappings}
 use Rattle.run_defs.specs.Turns.{AllLocal, steps_of}
 use Rattle.rv64_isa.specs.Instruction.{Effect, calls, instruction, is_step, list_of, steps, traps}
@@ -147,8 +147,8 @@ module _ (durable : Bool) (g : Group) (pid : ℕ) (p : Proc) (is : runner g pid 
 pub local_in_group : (g : Group) (pid : ℕ) (s : PrivatePart) → part_of g pid ≡ Some s → is_local g pid ≡ is_local_part s
 local_in_group g pid s is = let (p, found, same) = behind g pid s is in local_same true g pid p found ∙ ap is_local_part same
 
-local_changes : (durable : Bool) (g : Group) (pid : ℕ) (s : PrivatePart) → IsApart g → part_of g pid ≡ Some s → is_local_part s ≡ true → OnlyPartChanges pid g (group_step durable g pid) (local_step s)
-unfolding local_step is_local_part
+local_changes : (durable : Bool) (g : Group) (pid : ℕ) (s : PrivatePart) → IsApart g → part_of g pid ≡ Some s → is_local_part s ≡ true → OnlyPartChanges pid g (group_step durable g pid) (step_of_part s)
+unfolding step_of_part is_local_part
 local_changes durable g pid s apart is local =
     let (p, found, same) = behind g pid s is in
     let here : is_local_part (part_in g p) ≡ true = ap is_local_part same ∙ local in
@@ -172,10 +172,10 @@ maps_after s (steps r stored) = refl
 maps_after s calls = refl
 maps_after s (traps status) = refl
 
-pub maps_stay : (s : PrivatePart) (n : ℕ) → (local_steps s n).maps ≡ s.maps
-unfolding local_steps local_step
+pub maps_stay : (s : PrivatePart) (n : ℕ) → (steps_of_part s n).maps ≡ s.maps
+unfolding steps_of_part step_of_part
 maps_stay s zero = refl
-maps_stay s (suc n) = maps_after (local_steps s n) (part_effect (local_steps s n)) ∙ maps_stay s n
+maps_stay s (suc n) = maps_after (steps_of_part s n) (part_effect (steps_of_part s n)) ∙ maps_stay s n
 
 part_there : (g : Group) (pid : ℕ) (p : Proc) → runner g pid ≡ Some p → part_of g pid ≡ Some (part_in g p)
 unfolding part_of
@@ -208,30 +208,30 @@ apart_stays pid g h s now is same change apart one other p q differ found there 
     ap (λ (l : List Mapping). maps_privately l number) (sym maps_y)
     ∙ apart one other x y differ found' there' number (ap (λ (l : List Mapping). list_any (λ m. m.object == number) l) maps_x ∙ maps)
 
-pub steps_change : (s : State) (pid : ℕ) (part : PrivatePart) (n : ℕ) → IsApart s.group → part_of s.group pid ≡ Some part → AllLocalPart part n → OnlyPartChanges pid s.group (steps_of s pid n).group (local_steps part n)
-unfolding steps_of local_steps AllLocalPart
+pub steps_change : (s : State) (pid : ℕ) (part : PrivatePart) (n : ℕ) → IsApart s.group → part_of s.group pid ≡ Some part → AllLocalPart part n → OnlyPartChanges pid s.group (steps_of s pid n).group (steps_of_part part n)
+unfolding steps_of steps_of_part AllLocalPart
 steps_change s pid part zero apart is all = changes_none pid s.group part is
 steps_change s pid part (suc n) apart is all =
     let before = steps_change s pid part n apart is all.0 in
     let at : State = steps_of s pid n in
-    let still : IsApart at.group = apart_stays pid s.group at.group part (local_steps part n) is (maps_stay part n) before apart in
-    let one : OnlyPartChanges pid at.group (group_step (is_durable at.standing pid) at.group pid) (local_step (local_steps part n)) = local_changes (is_durable at.standing pid) at.group pid (local_steps part n) still before.part_is all.1 in
-    let P : Group → Type 0 = λ h. OnlyPartChanges pid at.group h (local_step (local_steps part n)) in
-    changes_on pid s.group at.group (do_step at pid).group (local_steps part n) (local_step (local_steps part n)) before (subst P (sym (step_group at pid)) one)
+    let still : IsApart at.group = apart_stays pid s.group at.group part (steps_of_part part n) is (maps_stay part n) before apart in
+    let one : OnlyPartChanges pid at.group (group_step (is_durable at.standing pid) at.group pid) (step_of_part (steps_of_part part n)) = local_changes (is_durable at.standing pid) at.group pid (steps_of_part part n) still before.part_is all.1 in
+    let P : Group → Type 0 = λ h. OnlyPartChanges pid at.group h (step_of_part (steps_of_part part n)) in
+    changes_on pid s.group at.group (do_step at pid).group (steps_of_part part n) (step_of_part (steps_of_part part n)) before (subst P (sym (step_group at pid)) one)
 
 pub apart_after : (s : State) (pid : ℕ) (part : PrivatePart) (n : ℕ) → IsApart s.group → part_of s.group pid ≡ Some part → AllLocalPart part n → IsApart (steps_of s pid n).group
-apart_after s pid part n apart is all = apart_stays pid s.group (steps_of s pid n).group part (local_steps part n) is (maps_stay part n) (steps_change s pid part n apart is all) apart
+apart_after s pid part n apart is all = apart_stays pid s.group (steps_of s pid n).group part (steps_of_part part n) is (maps_stay part n) (steps_change s pid part n apart is all) apart
 
 -- The group's steps are local where the part's are.
 pub all_local_in_group : (s : State) (pid : ℕ) (part : PrivatePart) (n : ℕ) → IsApart s.group → part_of s.group pid ≡ Some part → AllLocalPart part n → AllLocal s pid n
 unfolding AllLocal AllLocalPart
 all_local_in_group s pid part zero apart is all = tt
 all_local_in_group s pid part (suc n) apart is all =
-    (all_local_in_group s pid part n apart is all.0, local_in_group (steps_of s pid n).group pid (local_steps part n) (steps_change s pid part n apart is all.0).part_is ∙ all.1)
+    (all_local_in_group s pid part n apart is all.0, local_in_group (steps_of s pid n).group pid (steps_of_part part n) (steps_change s pid part n apart is all.0).part_is ∙ all.1)
 
 pub all_local_in_part : (s : State) (pid : ℕ) (part : PrivatePart) (n : ℕ) → IsApart s.group → part_of s.group pid ≡ Some part → AllLocal s pid n → AllLocalPart part n
 unfolding AllLocal AllLocalPart
 all_local_in_part s pid part zero apart is all = tt
 all_local_in_part s pid part (suc n) apart is all =
     let before = all_local_in_part s pid part n apart is all.0 in
-    (before, sym (local_in_group (steps_of s pid n).group pid (local_steps part n) (steps_change s pid part n apart is before).part_is) ∙ all.1)
+    (before, sym (local_in_group (steps_of s pid n).group pid (steps_of_part part n) (steps_change s pid part n apart is before).part_is) ∙ all.1)

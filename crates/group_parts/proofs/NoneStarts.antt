@@ -1,7 +1,7 @@
 -- No step and no call but clone lets another process run than those that ran.
 use Rattle.std.proofs.Common.{Bool, List, None, Option, Some, [], ap, false, not, refl, sym, true, ℕ, ◌-◌, ◌==◌, ◌^◌, ◌∙◌, ◌∷◌, ◌≡◌}
-use Rattle.std.proofs.lemmas.Bool.{eqb-true, false≢true}
-use Rattle.std.specs.List.{filter_map, cons_option, list_any}
+use Rattle.std.proofs.lemmas.Bool.{false≢true}
+use Rattle.std.specs.List.{filter_map, cons_option}
 use Rattle.std.specs.Option.{option_map}
 use Rattle.std.specs.Prelude.{filter, find, if◌then◌else◌}
 use Rattle.address_maps.specs.Cut.{cut}
@@ -13,15 +13,16 @@ use Rattle.group_defs.specs.Family.{after_end, ended}
 use Rattle.group_defs.specs.Group.{Group, is_runner, regs_of, runner, with_regs}
 use Rattle.group_defs.specs.Held.{settled}
 use Rattle.group_defs.specs.MapCalls.{mapped, new_mapping}
-use Rattle.group_defs.specs.Step.{after_effect, after_reply, call_in, effect_in, group_step, reply_in, served}
+use Rattle.group_defs.specs.Step.{after_effect, after_reply, call_in, effect_in, group_step, reply_in}
 use Rattle.group_defs.specs.Valid.{GroupIsValid}
-use Rattle.group_defs.specs.declared.calls.TheConstants.{CLONE, ENOSYS}
+use Rattle.group_defs.specs.declared.calls.TheConstants.{CLONE}
 use Rattle.group_defs.specs.declared.frame.Proc.{Proc}
 use Rattle.group_laws.proofs.OthersStay.{found_other, not_both, skipped, step_is}
-use Rattle.group_laws.proofs.Replies.{Leaves, Opened, Plain, call_holds, openat_leaves, write_reply}
+use Rattle.group_laws.proofs.Replies.{Leaves, Opened, Plain, call_holds, openat_leaves, served_or_refused, write_reply}
 use Rattle.group_laws.proofs.ReplyLaws.{found_pid}
 use Rattle.group_parts.proofs.OthersParts.{calls_leave_parts, steps_leave_parts}
 use Rattle.group_parts.specs.Parts.{PrivatePart, part_in, part_of}
+use Rattle.group_parts.specs.Served.{effect_clones, step_clones}
 use Rattle.rv64_isa.specs.Instruction.{Effect, calls, steps, traps}
 use Rattle.rv64_isa.specs.Registers.{answered, call_number}
 use Rattle.tables.specs.Rising.{added}
@@ -39,7 +40,7 @@ module _ (durable : Bool) (g : Group) (p : Proc) (q : ℕ) (differ : (p.pid == q
   abbrev Rests : Group → Type 0
   Rests h = find (is_runner q) h.frame.procs ≡ None
 
-  by_caller : (f : Proc → Proc) → ((y : Proc) → is_runner q (f y) ≡ is_runner q y) → (h : Group) → Rests h → Rests (on_caller h p f)
+  pub by_caller : (f : Proc → Proc) → ((y : Proc) → is_runner q (f y) ≡ is_runner q y) → (h : Group) → Rests h → Rests (on_caller h p f)
   by_caller f kept h e = found_other (is_runner p.pid) (is_runner q) f kept (λ y hit. not_both p.pid q y differ hit) h.frame.procs ∙ e
 
   rests_mapped : (list : List Mapping) (m : Mapping) → Rests (mapped g p list m)
@@ -91,7 +92,7 @@ module _ (durable : Bool) (g : Group) (p : Proc) (q : ℕ) (differ : (p.pid == q
       by_test true hit none rest = absurd (cc)
       by_test false miss none rest = skipped p status q differ y (filter_map (after_end p status) ys) miss ∙ rest none
 
-  end_rests : (status : ℕ) → Rests (ended g p status)
+  pub end_rests : (status : ℕ) → Rests (ended g p status)
   unfolding ended settled
   end_rests status = after_ends status g.frame.procs none
 
@@ -104,22 +105,13 @@ module _ (durable : Bool) (g : Group) (p : Proc) (q : ℕ) (differ : (p.pid == q
   pub call_rests : (number : ℕ) → (number == CLONE) ≡ false → Rests (after_reply g p (call_in durable g p number))
   call_rests number other = after_rests (call_in durable g p number) (call_leaves number other)
 
-  replies : (number : ℕ) → Leaves Rests (reply_in durable g p number)
-  unfolding reply_in served
-  replies number = by_served (list_any (λ n. n == number) served) refl
-    where
-      other : list_any (λ n. n == number) served ≡ true → (b : Bool) → (number == CLONE) ≡ b → b ≡ false
-      other its false e = refl
-      other its true e = let none_of : list_any (λ n. n == CLONE) served ≡ false = refl in absurd (false≢true (sym none_of ∙ ap (λ k. list_any (λ n. n == k) served) (sym (eqb-true number CLONE e)) ∙ its))
+  replies : (number : ℕ) → (number == CLONE) ≡ false → Leaves Rests (reply_in durable g p number)
+  replies number other = served_or_refused durable g p (Leaves Rests) number (call_leaves number other) tt
 
-      by_served : (b : Bool) → list_any (λ n. n == number) served ≡ b → Leaves Rests (if b then call_in durable g p number else refuses ENOSYS)
-      by_served true e = call_leaves number (other e (number == CLONE) refl)
-      by_served false e = tt
-
-  pub effect_rests : (e : Effect) → Rests (after_effect durable g p e)
-  effect_rests (steps r stored) = by_caller (with_regs r) (λ y. refl) g none
-  effect_rests calls = after_rests (reply_in durable g p (call_number (regs_of p))) (replies (call_number (regs_of p)))
-  effect_rests (traps status) = end_rests status
+  pub effect_rests : (e : Effect) → effect_clones p e ≡ false → Rests (after_effect durable g p e)
+  effect_rests (steps r stored) other = by_caller (with_regs r) (λ y. refl) g none
+  effect_rests calls other = after_rests (reply_in durable g p (call_number (regs_of p))) (replies (call_number (regs_of p)) other)
+  effect_rests (traps status) other = end_rests status
 
 -- who has no part doesn't run
 pub no_part : (g : Group) (q : ℕ) → part_of g q ≡ None → runner g q ≡ None
@@ -135,19 +127,23 @@ unfolding part_of
 none_has h q e = ap (option_map (part_in h)) e
 
 -- So every other process has the part that it had, or none.
-pub steps_leave_others : (durable : Bool) (g : Group) (pid q : ℕ) → GroupIsValid g → (pid == q) ≡ false → part_of (group_step durable g pid) q ≡ part_of g q
-unfolding runner
-steps_leave_others durable g pid q valid differ = by_part (part_of g q) refl
+pub others_by : (durable : Bool) (g : Group) (pid q : ℕ) → GroupIsValid g → (pid == q) ≡ false → (runner g q ≡ None → runner (group_step durable g pid) q ≡ None) → part_of (group_step durable g pid) q ≡ part_of g q
+others_by durable g pid q valid differ rests = by_part (part_of g q) refl
   where
-    rests : runner g q ≡ None → (o : Option Proc) → find (is_runner pid) g.frame.procs ≡ o → find (is_runner q) (group_step durable g pid).frame.procs ≡ None
+    by_part : (o : Option PrivatePart) → part_of g q ≡ o → part_of (group_step durable g pid) q ≡ o
+    by_part None e = none_has (group_step durable g pid) q (rests (no_part g q e))
+    by_part (Some part) e = steps_leave_parts durable g pid q part valid differ e
+
+pub steps_leave_others : (durable : Bool) (g : Group) (pid q : ℕ) → GroupIsValid g → (pid == q) ≡ false → step_clones g pid ≡ false → part_of (group_step durable g pid) q ≡ part_of g q
+unfolding runner step_clones
+steps_leave_others durable g pid q valid differ other = others_by durable g pid q valid differ (λ none. rests none (find (is_runner pid) g.frame.procs) refl)
+  where
+    rests : find (is_runner q) g.frame.procs ≡ None → (o : Option Proc) → find (is_runner pid) g.frame.procs ≡ o → find (is_runner q) (group_step durable g pid).frame.procs ≡ None
     rests none None e = ap (λ (h : Group). find (is_runner q) h.frame.procs) ((step_is durable g pid).0 e) ∙ none
     rests none (Some p) e =
         ap (λ (h : Group). find (is_runner q) h.frame.procs) ((step_is durable g pid).1 p e)
         ∙ effect_rests durable g p q (ap (λ k. k == q) (found_pid g.frame.procs pid p e) ∙ differ) none (effect_in g p)
-
-    by_part : (o : Option PrivatePart) → part_of g q ≡ o → part_of (group_step durable g pid) q ≡ o
-    by_part None e = none_has (group_step durable g pid) q (rests (no_part g q e) (find (is_runner pid) g.frame.procs) refl)
-    by_part (Some part) e = steps_leave_parts durable g pid q part valid differ e
+        (sym (ap (λ (o : Option Proc). elim o [ None ↦ false | Some x ↦ effect_clones x (effect_in g x) ]) e) ∙ other)
 
 pub calls_leave_others : (durable : Bool) (g : Group) (pid q number : ℕ) (p : Proc) → GroupIsValid g → (pid == q) ≡ false → runner g pid ≡ Some p → (number == CLONE) ≡ false → part_of (after_reply g p (call_in durable g p number)) q ≡ part_of g q
 unfolding runner

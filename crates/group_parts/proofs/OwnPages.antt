@@ -10,7 +10,7 @@ use Rattle.group_defs.specs.Pages.{is_among, page_at, pages_at, pages_of_writes}
 use Rattle.group_laws.proofs.LocalStores.{StoresOwn, instruction_own}
 use Rattle.group_parts.proofs.LocalSteps.{maps_stay, owned_of}
 use Rattle.group_parts.proofs.Memory.{EachAt, EachOf}
-use Rattle.group_parts.specs.Local.{local_steps, pages_of_step, pages_of_steps, part_effect, writes_of_effect}
+use Rattle.group_parts.specs.Local.{steps_of_part, pages_of_step, pages_of_steps, part_effect, writes_of_effect}
 use Rattle.group_parts.specs.Parts.{PrivatePart}
 use Rattle.rv64_isa.specs.Instruction.{Effect, calls, steps, traps}
 use Rattle.rv64_isa.specs.Memory.{Write}
@@ -46,6 +46,6 @@ pub steps_touch_own : (part : PrivatePart) (n object page : ℕ) → maps_privat
 unfolding pages_of_steps pages_of_step
 steps_touch_own part zero object page none = refl
 steps_touch_own part (suc n) object page none =
-    let at : PrivatePart = local_steps part n in
-    joined (pages_of_steps part n) (pages_of_step (local_steps part n)) (object, page) (steps_touch_own part n object page none)
+    let at : PrivatePart = steps_of_part part n in
+    joined (pages_of_steps part n) (pages_of_step (steps_of_part part n)) (object, page) (steps_touch_own part n object page none)
     (effect_elsewhere at.maps object page (ap (λ (l : List Mapping). maps_privately l object) (maps_stay part n) ∙ none) (part_effect at) (instruction_own at.memory at.maps at.regs))

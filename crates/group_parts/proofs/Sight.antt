@@ -20,10 +20,10 @@ use Rattle.group_parts.proofs.Runners.{ended_maps, runner_found}
 use Rattle.group_parts.specs.Parts.{is_private, is_public, part_in, private_memory, public_part}
 use Rattle.rv64_isa.specs.Memory.{Cell}
 
-abbrev entry : Memory → ℕ → Option (ℕ × List ℕ)
+abbrev pub entry : Memory → ℕ → Option (ℕ × List ℕ)
 entry memory number = find (λ o. o.0 == number) memory
 
-abbrev bytes_at : Option (ℕ × List ℕ) → List ℕ
+abbrev pub bytes_at : Option (ℕ × List ℕ) → List ℕ
 bytes_at o = elim o [ None ↦ [] | Some e ↦ e.1 ]
 
 -- the first of two tables that has it
@@ -37,7 +37,7 @@ entry_both (o ∷ os) b number = by_test (o.0 == number) (entry_both os b number
     by_test false ih = ih
 
 -- a table of what passes a test
-gone_entry : (keep : ℕ → Bool) (memory : Memory) (number : ℕ) → keep number ≡ false → entry (kept_in keep memory) number ≡ None
+pub gone_entry : (keep : ℕ → Bool) (memory : Memory) (number : ℕ) → keep number ≡ false → entry (kept_in keep memory) number ≡ None
 gone_entry keep [] number none = refl
 gone_entry keep (o ∷ os) number none = by_tests (cases_Bool (keep o.0)) (cases_Bool (o.0 == number)) (gone_entry keep os number none)
   where
@@ -46,7 +46,7 @@ gone_entry keep (o ∷ os) number none = by_tests (cases_Bool (keep o.0)) (cases
     by_tests (inl stays) (inr miss) ih = rw stays (rw miss ih)
     by_tests (inr goes) either ih = rw goes ih
 
-kept_entry : (keep : ℕ → Bool) (memory : Memory) (number : ℕ) → keep number ≡ true → entry (kept_in keep memory) number ≡ entry memory number
+pub kept_entry : (keep : ℕ → Bool) (memory : Memory) (number : ℕ) → keep number ≡ true → entry (kept_in keep memory) number ≡ entry memory number
 kept_entry keep [] number hit = refl
 kept_entry keep (o ∷ os) number hit = by_tests (cases_Bool (keep o.0)) (cases_Bool (o.0 == number)) (kept_entry keep os number hit)
   where

@@ -5,7 +5,7 @@ use Rattle.group_defs.specs.Fork.{maps_privately}
 use Rattle.group_defs.specs.Group.{Group}
 use Rattle.group_defs.specs.Pages.{is_among}
 use Rattle.group_defs.specs.Step.{is_waiting}
-use Rattle.group_parts.specs.Local.{AllLocalPart, local_steps}
+use Rattle.group_parts.specs.Local.{AllLocalPart, steps_of_part}
 use Rattle.group_parts.specs.Parts.{PrivatePart, part_of}
 use Rattle.run_defs.specs.Legal.{is_unleased}
 use Rattle.run_defs.specs.Progress.{Lease, Progress, is_lease}
@@ -15,7 +15,7 @@ pub record IsLeaseOf (g : Group) (pid done : ℕ) (part : PrivatePart) : Type 0 
   pub taken : PrivatePart
   pub taken_is : part_of g pid ≡ Some taken
   pub all_local : AllLocalPart taken done
-  pub part_is : part ≡ local_steps taken done
+  pub part_is : part ≡ steps_of_part taken done
 
 -- no process has two leases
 abbrev pub LeasedOnce : List Lease → Type 0

@@ -26,18 +26,18 @@ part_after s (steps r stored) = continued_part s r (list_of stored)
 part_after s calls = s
 part_after s (traps status) = s
 
-unfoldable pub local_step : PrivatePart → PrivatePart
-local_step s = part_after s (part_effect s)
+unfoldable pub step_of_part : PrivatePart → PrivatePart
+step_of_part s = part_after s (part_effect s)
 
 -- after n steps
-unfoldable pub local_steps : PrivatePart → ℕ → PrivatePart
-local_steps s zero = s
-local_steps s (suc n) = local_step (local_steps s n)
+unfoldable pub steps_of_part : PrivatePart → ℕ → PrivatePart
+steps_of_part s zero = s
+steps_of_part s (suc n) = step_of_part (steps_of_part s n)
 
 -- each of the next n steps is local
 unfoldable pub AllLocalPart : PrivatePart → ℕ → Type 0
 AllLocalPart s zero = Unit {0}
-AllLocalPart s (suc n) = AllLocalPart s n × IsTrue (is_local_part (local_steps s n))
+AllLocalPart s (suc n) = AllLocalPart s n × IsTrue (is_local_part (steps_of_part s n))
 
 -- what the next step stores, the pages that it stores to, and those of n steps
 abbrev pub writes_of_effect : Effect → List Write
@@ -50,7 +50,7 @@ pages_of_step s = pages_of_writes s.maps (writes_of_effect (part_effect s))
 
 unfoldable pub pages_of_steps : PrivatePart → ℕ → List (ℕ × ℕ)
 pages_of_steps s zero = []
-pages_of_steps s (suc n) = pages_of_steps s n ++ pages_of_step (local_steps s n)
+pages_of_steps s (suc n) = pages_of_steps s n ++ pages_of_step (steps_of_part s n)
 
 -- From g to h this process's private part became another; the public part and every other private part stayed.
 pub record OnlyPartChanges (pid : ℕ) (g h : Group) (part : PrivatePart) : Type 0 where

@@ -1,17 +1,35 @@
 -- What a step that isn't local leaves of the public part.
-use Rattle.std.specs.Prelude.{ℕ, ◌==◌, ◌||◌, not, Bool, List}
+use Rattle.std.specs.Prelude.{ℕ, ◌==◌, ◌||◌, not, Bool, false, List, Some, None}
 use Rattle.std.specs.List.{filter, filter_map, list_any}
 use Rattle.address_maps.specs.declared.maps.Mapping.{Mapping}
 use Rattle.group_defs.specs.Cells.{with_writes}
 use Rattle.group_defs.specs.Changes.{with_procs}
 use Rattle.group_defs.specs.Family.{after_end}
-use Rattle.group_defs.specs.Group.{Group}
+use Rattle.group_defs.specs.Group.{Group, regs_of, runner}
 use Rattle.group_defs.specs.Held.{settled}
 use Rattle.group_defs.specs.Objects.{maps_object}
+use Rattle.group_defs.specs.Step.{effect_in}
+use Rattle.group_defs.specs.declared.calls.TheConstants.{CLONE}
 use Rattle.group_defs.specs.declared.frame.Proc.{Proc}
+use Rattle.group_parts.specs.Parts.{PrivatePart}
+use Rattle.rv64_isa.specs.Instruction.{Effect, steps, calls, traps}
 use Rattle.rv64_isa.specs.Memory.{Write}
+use Rattle.rv64_isa.specs.Registers.{call_number}
+use Rattle.rv64_isa.specs.declared.regs.Regs.{Regs}
 
--- The caller's writes land in its part and in the public objects; each has those of its own objects.
+-- The next step of the running process by this pid is a call of clone, which lets a child run.
+abbrev pub effect_clones : Proc → Effect → Bool
+effect_clones p (steps r stored) = false
+effect_clones p calls = call_number (regs_of p) == CLONE
+effect_clones p (traps status) = false
+
+unfoldable pub step_clones : Group → ℕ → Bool
+step_clones g pid = elim (runner g pid) [ None ↦ false | Some p ↦ effect_clones p (effect_in g p) ]
+
+-- The caller's writes land in its part and in the public objects, by the mappings that it had; each has those of its own objects.
+abbrev pub answered_part : PrivatePart → Regs → List Mapping → List Write → PrivatePart
+answered_part part r maps writes = record { regs = r; maps = part.maps; memory = with_writes part.memory maps writes }
+
 abbrev pub stored_in : Group → List Mapping → List Write → Group
 stored_in public maps writes = record public { memory = with_writes public.memory maps writes }
 

@@ -1,24 +1,25 @@
 //! What holds of a group's parts, whatever the group.
 
-ghost use Rattle.std.specs.Prelude.{◌≡◌, ◌↔◌, ◌⊎◌, ◌<◌, ◌==◌, ◌+◌, ◌++◌, ◌-◌, ◌^◌, ℕ, Bool, IsTrue, List, [], Option, map, Some, true, false};
+ghost use Rattle.std.specs.Prelude.{◌≡◌, ◌↔◌, ◌⊎◌, ◌<◌, ◌==◌, ◌+◌, ◌++◌, ◌-◌, ◌^◌, Any, ℕ, Bool, IsTrue, List, [], Option, find, map, Some, true, false};
 ghost use Rattle.std.specs.List.{list_any};
 ghost use Rattle.group_defs.specs.Calls.{answers, refuses, waits};
 ghost use Rattle.group_defs.specs.Cells.{bytes_in, cells_of, sight};
 ghost use Rattle.group_defs.specs.Family.{ended};
 ghost use Rattle.group_defs.specs.Fork.{maps_privately};
 ghost use Rattle.group_defs.specs.Group.{Group, regs_of, runner};
-ghost use Rattle.group_defs.specs.Pages.{is_among};
-ghost use Rattle.group_defs.specs.Standing.{State, group_barrier};
+ghost use Rattle.group_defs.specs.Pages.{is_among, touched_with_step};
+ghost use Rattle.group_defs.specs.Standing.{State, group_barrier, is_durable};
 ghost use Rattle.group_defs.specs.Step.{after_reply, call_in, do_step, effect_in, group_step, is_local, reply_to};
 ghost use Rattle.group_defs.specs.Valid.{GroupIsValid};
 ghost use Rattle.group_defs.specs.declared.calls.TheConstants.{CLONE};
+ghost use Rattle.group_defs.specs.declared.frame.ObjectRec.{ObjectRec};
 ghost use Rattle.group_defs.specs.declared.frame.Proc.{Proc};
 ghost use Rattle.group_parts.specs.Kept.{KeptParts, PutsPart, StandsFor, TakesPart, all_parts, filled, kept_part, with_part};
 ghost use Rattle.group_parts.specs.Leases.{IsLeaseOf, LeasesStand, LeavesLease};
-ghost use Rattle.group_parts.specs.Local.{AllLocalPart, OnlyPartChanges, continued_part, is_local_part, local_steps, pages_of_steps};
+ghost use Rattle.group_parts.specs.Local.{AllLocalPart, OnlyPartChanges, continued_part, is_local_part, steps_of_part, pages_of_steps};
 ghost use Rattle.group_parts.specs.Marks.{AreAllowed, is_turn_by, is_turn_of};
-ghost use Rattle.group_parts.specs.Parts.{IsApart, PrivatePart, is_public, part_in, part_of, private_memory, public_part};
-ghost use Rattle.group_parts.specs.Served.{public_ended, stored_in};
+ghost use Rattle.group_parts.specs.Parts.{IsApart, PrivatePart, part_in, part_of, public_part};
+ghost use Rattle.group_parts.specs.Served.{answered_part, public_ended, step_clones, stored_in};
 ghost use Rattle.run_defs.specs.Legal.{Allowed, TakeAllowed, TurnAllowed, is_unleased};
 ghost use Rattle.run_defs.specs.Marks.{is_barrier};
 ghost use Rattle.run_defs.specs.Progress.{Lease, Progress, after_mark, is_lease, leases_after_turn, progress_after, progress_at};
@@ -29,7 +30,7 @@ ghost use Rattle.run_defs.specs.declared.run.Mark.{Mark};
 ghost use Rattle.run_defs.specs.declared.run.Mark.TheVariants.{Take, Turn};
 ghost use Rattle.rv64_isa.specs.Instruction.{calls, list_of, steps};
 ghost use Rattle.rv64_isa.specs.Memory.{Write};
-ghost use Rattle.rv64_isa.specs.Registers.{answered};
+ghost use Rattle.rv64_isa.specs.Registers.{answered, call_number};
 ghost use Rattle.rv64_isa.specs.declared.regs.Regs.{Regs};
 ghost use Rattle.tables.specs.Rising.{Rise};
 
@@ -79,7 +80,7 @@ pub fn local_steps_are_of_the_part()
         → part_of s.group pid ≡ Some part → AllLocalPart part n ↔ AllLocal s pid n }
     ensures steps { (s : State) (pid : ℕ) (part : PrivatePart) (n : ℕ) → IsApart s.group
         → part_of s.group pid ≡ Some part → AllLocalPart part n
-        → OnlyPartChanges pid s.group (steps_of s pid n).group (local_steps part n) }
+        → OnlyPartChanges pid s.group (steps_of s pid n).group (steps_of_part part n) }
     ensures touched { (s : State) (pid : ℕ) (part : PrivatePart) (n : ℕ) (so_far : List (ℕ × ℕ))
         → IsApart s.group → part_of s.group pid ≡ Some part → AllLocalPart part n
         → touched_with_steps s pid n so_far ≡ so_far ++ pages_of_steps part n }
@@ -96,9 +97,9 @@ pub fn leases_commute()
         → IsLeaseOf g pid 0 part }
     ensures runs { (g : Group) (pid done more : ℕ) (part : PrivatePart)
         → IsLeaseOf g pid done part → AllLocalPart part more
-        → IsLeaseOf g pid (done + more) (local_steps part more) }
+        → IsLeaseOf g pid (done + more) (steps_of_part part more) }
     ensures pages { (part : PrivatePart) (done more : ℕ) → pages_of_steps part (done + more)
-        ≡ pages_of_steps part done ++ pages_of_steps (local_steps part done) more }
+        ≡ pages_of_steps part done ++ pages_of_steps (steps_of_part part done) more }
     ensures found { (limits : Limits) (r : Progress) (marks : List Mark) (worker pid done : ℕ)
         (part : PrivatePart) → AreAllowed limits r marks → LeasesStand r
         → IsTrue (list_any (is_lease worker pid) r.leases)
@@ -139,7 +140,8 @@ pub fn takes()
 
 /// A lease is given back at the quantum, or before a step that isn't local: its Turn is allowed then, also where it did
 /// nothing. At the quantum what is kept with its part stands for the group after the Turn, and its own pages are all that the
-/// Turn touches. Before it the same stands for the group before the step that isn't local, which is part of the Turn.
+/// Turn touches. Before it the same stands for the group before the step that isn't local, which is part of the Turn and may
+/// touch further pages.
 pub fn gives()
     ensures allowed { (limits : Limits) (r : Progress) (worker pid done : ℕ) (part : PrivatePart)
         → LeasesStand r → IsApart r.state.group
@@ -156,6 +158,13 @@ pub fn gives()
         → IsApart r.state.group → (lease : IsLeaseOf r.state.group pid done part)
         → done ≡ limits.quantum → (after_mark limits.quantum r (Turn worker pid done)).touched
         ≡ r.touched ++ pages_of_steps lease.taken done }
+    ensures touched_before { (limits : Limits) (r : Progress) (worker pid done : ℕ)
+        (part : PrivatePart) → IsApart r.state.group
+        → (lease : IsLeaseOf r.state.group pid done part) → done < limits.quantum
+        → let s = steps_of r.state pid done in
+        (after_mark limits.quantum r (Turn worker pid done)).touched
+        ≡ touched_with_step (is_durable s.standing pid) s.group pid
+        (r.touched ++ pages_of_steps lease.taken done) }
     ensures back { (r : Progress) (worker pid done : ℕ) (part : PrivatePart) (k : KeptParts)
         (here : List (ℕ × PrivatePart)) (did : Bool) → LeasesStand r → IsApart r.state.group
         → IsTrue (list_any (is_lease worker pid) r.leases) → IsLeaseOf r.state.group pid done part
@@ -167,8 +176,8 @@ pub fn gives()
 {}
 
 /// A barrier leaves all but the output. Where no lease is out, the frame that a fetch copies is that of the public part with
-/// the private parts in their processes' rows. The bytes of an object are those in the private part of who maps it privately,
-/// else those in the public part.
+/// the private parts in their processes' rows, and each object is in one of the parts: its bytes are those of its entry in the
+/// public part, or those in the private part of who maps it privately.
 pub fn barriers_and_fetches()
     ensures stands { (leases : List Lease) (k : KeptParts) (g : Group) → StandsFor leases k g
         → StandsFor leases (record k { public = group_barrier k.public }) (group_barrier g) }
@@ -180,18 +189,25 @@ pub fn barriers_and_fetches()
         → kept_part k.here pid ≡ Some part → maps_privately part.maps object ≡ true
         → bytes_in part.memory object ≡ bytes_in g.memory object }
     ensures public_bytes { (leases : List Lease) (k : KeptParts) (g : Group) (object : ℕ)
-        → StandsFor leases k g → is_public g.frame.procs object ≡ true
-        → bytes_in k.public.memory object ≡ bytes_in g.memory object }
+        (entry : ℕ × List ℕ) → StandsFor leases k g
+        → find (λ o. o.0 == object) k.public.memory ≡ Some entry
+        → bytes_in g.memory object ≡ entry.1 }
+    ensures objects { (k : KeptParts) (g : Group) (o : ObjectRec) → StandsFor [] k g
+        → GroupIsValid g → Any (λ x. x ≡ o) g.frame.objects
+        → ((entry : ℕ × List ℕ) × (find (λ e. e.0 == o.number) k.public.memory ≡ Some entry))
+        ⊎ ((pid : ℕ) × (part : PrivatePart) × (kept_part k.here pid ≡ Some part)
+        × (maps_privately part.maps o.number ≡ true)) }
 {}
 
 /// A call's caller is its row of the public part with its private part. What it sees lies in these two parts, and what has to
-/// be shown of it is what becomes of them: no step, and no call but clone, which isn't served yet, changes what another
-/// process has, or lets one run that didn't.
+/// be shown of it is what becomes of them: no step and no call but clone changes what another process has, or lets one run
+/// that didn't.
 pub fn calls_by_their_parts()
     ensures sees { (g : Group) (pid : ℕ) (p : Proc) → GroupIsValid g → runner g pid ≡ Some p
         → sight g p ≡ cells_of ((part_in g p).memory ++ (public_part g).memory) p.maps }
     ensures others { (durable : Bool) (g : Group) (pid other : ℕ) → GroupIsValid g
-        → (pid == other) ≡ false → part_of (group_step durable g pid) other ≡ part_of g other }
+        → (pid == other) ≡ false → step_clones g pid ≡ false
+        → part_of (group_step durable g pid) other ≡ part_of g other }
     ensures others_by_calls { (durable : Bool) (g : Group) (pid other number : ℕ) (p : Proc)
         → GroupIsValid g → (pid == other) ≡ false → runner g pid ≡ Some p
         → (number == CLONE) ≡ false
@@ -208,10 +224,10 @@ pub fn calls_by_their_parts()
         → runner g pid ≡ Some (filled (Some part) row) }
 {}
 
-/// The step of a process whose part is here, by what comes of it: an instruction that isn't local, a call that waits, is
-/// refused, or answers and leaves the processes and the caller's private objects as they were; and the end of the process. The
-/// caller's part gets new registers, and what is stored lands in it and in the public objects; an ended process leaves what
-/// the rows of the public part and its own mappings say.
+/// The step of a process whose part is here, by what comes of it: an instruction that isn't local; a call that waits, is
+/// refused, or, but for clone, answers; and the end of the process. Where a call answers, h is the group that the answer names and x what its
+/// caller is there: its part and the public one are those of h, with new registers, and what is stored lands in both, by the
+/// mappings that the caller had. An ended process leaves what the rows of the public part and its own mappings say.
 pub fn steps_served()
     ensures instruction { (durable : Bool) (leases : List Lease) (k : KeptParts) (g : Group)
         (pid : ℕ) (p : Proc) → StandsFor leases k g → GroupIsValid g → runner g pid ≡ Some p
@@ -234,12 +250,12 @@ pub fn steps_served()
         → StandsFor leases (record k { here = here }) (group_step durable g pid) }
     ensures answer { (durable : Bool) (leases : List Lease) (k : KeptParts) (g : Group)
         (pid : ℕ) (p : Proc) → StandsFor leases k g → GroupIsValid g → runner g pid ≡ Some p
-        → is_unleased leases pid ≡ true → (value : ℕ) (h : Group) (writes : List Write)
+        → is_unleased leases pid ≡ true → (value : ℕ) (h : Group) (writes : List Write) (x : Proc)
         (public : Group) (here : List (ℕ × PrivatePart)) → effect_in g p ≡ calls
-        → reply_to durable g p ≡ answers value h writes → h.frame.procs ≡ g.frame.procs
-        → private_memory h.memory p.maps ≡ private_memory g.memory p.maps
+        → (call_number (regs_of p) == CLONE) ≡ false
+        → reply_to durable g p ≡ answers value h writes → runner h pid ≡ Some x
         → public ≡ public_part h → PutsPart k.here here pid
-        (continued_part (part_in g p) (answered (regs_of p) value) writes)
+        (answered_part (part_in h x) (answered (regs_of p) value) p.maps writes)
         → StandsFor leases (record { public = stored_in public p.maps writes; here = here })
         (group_step durable g pid) }
     ensures end { (durable : Bool) (leases : List Lease) (k : KeptParts) (g : Group) (pid : ℕ)

@@ -1,4 +1,4 @@
-use Rattle.group_parts.proofs.Callers.{private_bytes, public_bytes}
+use Rattle.group_parts.proofs.Callers.{each_object, private_bytes, public_bytes}
 use Rattle.group_parts.proofs.KeptLaws.{barrier_stands}
 use Rattle.group_parts.proofs.Whole.{whole_frame}
 use Rattle.group_parts.proofs.laws.barriers_and_fetches.Goals as goal
@@ -14,3 +14,6 @@ returns-clause-private_bytes c = private_bytes
 
 pub returns-clause-public_bytes : goal.returns-clause-public_bytes
 returns-clause-public_bytes c = public_bytes
+
+pub returns-clause-objects : goal.returns-clause-objects
+returns-clause-objects c = each_object

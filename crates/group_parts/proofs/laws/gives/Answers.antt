@@ -1,4 +1,4 @@
-use Rattle.group_parts.proofs.KeptLaws.{back_stands, short_turn, turn_allowed, whole_stands, whole_touches}
+use Rattle.group_parts.proofs.KeptLaws.{back_stands, short_touches, short_turn, turn_allowed, whole_stands, whole_touches}
 use Rattle.group_parts.proofs.laws.gives.Goals as goal
 
 pub returns-clause-allowed : goal.returns-clause-allowed
@@ -15,3 +15,6 @@ returns-clause-back c r worker pid done part k here did stand apart out lease st
 
 pub returns-clause-short : goal.returns-clause-short
 returns-clause-short c = short_turn
+
+pub returns-clause-touched_before : goal.returns-clause-touched_before
+returns-clause-touched_before c = short_touches
