@@ -98,15 +98,13 @@ fn a_disk_of_format_1_holds_its_process(rt: HostRuntime) -> Result<(), Fail> {
     Ok(())
 }
 
-/// The bytes of a layer's pages, one after another, where they are the first ones of an object, and at most so many.
-fn bytes_of(alloc: Global, layer: &Layer, count: u64) -> Result<Vec<u8>, Fail> {
+/// The bytes of a layer's pages, one after another, where they are the first ones of an object.
+fn bytes_of(alloc: Global, layer: &Layer) -> Result<Vec<u8>, Fail> {
     let mut bytes = Vec::new(alloc);
-    let mut next = 0u64;
-    for slot in layer.as_slice() {
-        if slot.0 != next || next == count {
+    for (i, slot) in layer.as_slice().iter().enumerate() {
+        if slot.0 != i as u64 {
             return Err(Fail::new("the layer has other pages"));
         }
-        next += 1;
         bytes.extend_from_slice(slot.1.as_array())?;
     }
     Ok(bytes)
@@ -120,7 +118,7 @@ fn a_disk_of_format_1_holds_its_pages(rt: HostRuntime) -> Result<(), Fail> {
     match found.parts.layers.as_slice() {
         [program, stack] => {
             assert_eq!(rt; (program.0, stack.0), (0, 1));
-            let bytes = bytes_of(alloc, &program.1, 13)?;
+            let bytes = bytes_of(alloc, &program.1)?;
             assert!(rt; image.get(8_192..61_440) == Some(bytes.as_slice()));
             assert_eq!(rt; stack.1.len(), 0);
             Ok(())
