@@ -6,7 +6,5 @@ pub enum Access {
     /// The step is done.
     Stepped,
     /// The process is to end with this wait status. Nothing has changed.
-    Trap {
-        code: u32,
-    },
+    Trap { code: u32 },
 }

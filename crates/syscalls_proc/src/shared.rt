@@ -2,9 +2,9 @@
 
 ghost use Rattle.std.specs.Prelude.{◌≡◌, ℕ, ◌<◌, IfOk, OnErr, OnOk};
 ghost use Rattle.rv64_isa.specs.Instruction.{effect, instruction, ActFits, IsSize};
-ghost use Rattle.rv64_isa.specs.Memory.{Cells};
+ghost use Rattle.rv64_isa.specs.Memory.{Cells, fetched};
 ghost use Rattle.rv64_core.specs.Step.{after_landing, StoresNothing};
-ghost use Rattle.syscalls_proc.specs.Accessing.{IsNoCall, Leaves, MayStore};
+ghost use Rattle.syscalls_proc.specs.Accessing.{ActMayWantMemory, IsNoCall, Leaves, MayWantMemory};
 
 use crate::access::Access;
 use crate::loading::number_at;
@@ -28,8 +28,9 @@ pub fn shared_access<M: UserMem>(regs: &mut Regs, mem: &mut M) -> Result<Access,
     ensures lands { OnOk result (M.table mem.new
         ≡ after_landing M.landed (instruction (M.cells mem.old) regs.old) (M.table mem.old)) }
 
-    // Memory is wanted by a store alone, and then nothing changes.
-    ensures wants { OnErr result (MayStore (instruction (M.cells mem.old) regs.old)) }
+    // Memory is wanted by a store alone, where its bytes aren't reserved, and then nothing changes.
+    ensures wants { OnErr result (MayWantMemory (M.is_reserved mem.old) regs.old
+        (fetched (M.cells mem.old) regs.old.pc)) }
     ensures regs_err { OnErr result (regs.new ≡ regs.old) }
     ensures cells_err { OnErr result (M.cells mem.new ≡ M.cells mem.old) }
     ensures table_err { OnErr result (M.table mem.new ≡ M.table mem.old) }
@@ -48,7 +49,7 @@ fn carry_out<M: UserMem>(regs: &mut Regs, mem: &mut M, act: Act) -> Result<Acces
         regs.old (M.cells mem.old) regs.new (M.cells mem.new)) }
     ensures lands { OnOk result (M.table mem.new
         ≡ after_landing M.landed (effect (M.cells mem.old) regs.old act) (M.table mem.old)) }
-    ensures wants { OnErr result (MayStore (effect (M.cells mem.old) regs.old act)) }
+    ensures wants { OnErr result (ActMayWantMemory (M.is_reserved mem.old) act) }
     ensures regs_err { OnErr result (regs.new ≡ regs.old) }
     ensures cells_err { OnErr result (M.cells mem.new ≡ M.cells mem.old) }
     ensures table_err { OnErr result (M.table mem.new ≡ M.table mem.old) }
@@ -118,8 +119,8 @@ fn store<M: UserMem>(
         (Act.Stores address n value)) regs.old (M.cells mem.old) regs.new (M.cells mem.new)) }
     ensures lands { OnOk result (M.table mem.new ≡ after_landing M.landed (effect (M.cells mem.old)
         regs.old (Act.Stores address n value)) (M.table mem.old)) }
-    ensures wants { OnErr result (MayStore (effect (M.cells mem.old) regs.old (Act.Stores address n
-        value))) }
+    ensures wants { OnErr result (ActMayWantMemory (M.is_reserved mem.old)
+        (Act.Stores address n value)) }
     ensures regs_err { OnErr result (regs.new ≡ regs.old) }
     ensures cells_err { OnErr result (M.cells mem.new ≡ M.cells mem.old) }
     ensures table_err { OnErr result (M.table mem.new ≡ M.table mem.old) }
