@@ -22,3 +22,4 @@ pub mod Numbered
 pub mod Ended
 pub mod OwnPages
 pub mod Callers
+pub mod Cloned

@@ -1,6 +1,6 @@
 //! What holds of a group's parts, whatever the group.
 
-ghost use Rattle.std.specs.Prelude.{◌≡◌, ◌↔◌, ◌⊎◌, ◌<◌, ◌==◌, ◌+◌, ◌++◌, ◌-◌, ◌^◌, Any, ℕ, Bool, IsTrue, List, [], Option, find, map, Some, true, false};
+ghost use Rattle.std.specs.Prelude.{◌≡◌, ◌↔◌, ◌⊎◌, ◌<◌, ◌==◌, ◌+◌, ◌++◌, ◌-◌, ◌^◌, Any, if◌then◌else◌, ℕ, Bool, IsTrue, List, [], Option, find, map, Some, true, false};
 ghost use Rattle.std.specs.List.{list_any};
 ghost use Rattle.group_defs.specs.Calls.{answers, refuses, waits};
 ghost use Rattle.group_defs.specs.Cells.{bytes_in, cells_of, sight};
@@ -200,13 +200,16 @@ pub fn barriers_and_fetches()
 {}
 
 /// A call's caller is its row of the public part with its private part. What it sees lies in these two parts, and what has to
-/// be shown of it is what becomes of them: no step and no call but clone changes what another process has, or lets one run
-/// that didn't.
+/// be shown of it is what becomes of them: no step and no call changes what another process has, or lets one run that didn't,
+/// but clone's child, which has the next pid.
 pub fn calls_by_their_parts()
     ensures sees { (g : Group) (pid : ℕ) (p : Proc) → GroupIsValid g → runner g pid ≡ Some p
         → sight g p ≡ cells_of ((part_in g p).memory ++ (public_part g).memory) p.maps }
     ensures others { (durable : Bool) (g : Group) (pid other : ℕ) → GroupIsValid g
         → (pid == other) ≡ false → step_clones g pid ≡ false
+        → part_of (group_step durable g pid) other ≡ part_of g other }
+    ensures but_new { (durable : Bool) (g : Group) (pid other : ℕ) → GroupIsValid g
+        → (pid == other) ≡ false → (g.frame.next.pid == other) ≡ false
         → part_of (group_step durable g pid) other ≡ part_of g other }
     ensures others_by_calls { (durable : Bool) (g : Group) (pid other number : ℕ) (p : Proc)
         → GroupIsValid g → (pid == other) ≡ false → runner g pid ≡ Some p
@@ -225,9 +228,10 @@ pub fn calls_by_their_parts()
 {}
 
 /// The step of a process whose part is here, by what comes of it: an instruction that isn't local; a call that waits, is
-/// refused, or, but for clone, answers; and the end of the process. Where a call answers, h is the group that the answer names and x what its
+/// refused, or answers; and the end of the process. Where a call answers, h is the group that the answer names and x what its
 /// caller is there: its part and the public one are those of h, with new registers, and what is stored lands in both, by the
-/// mappings that the caller had. An ended process leaves what the rows of the public part and its own mappings say.
+/// mappings that the caller had. Clone stores nothing, and its child's part is one more. An ended process leaves what the rows
+/// of the public part and its own mappings say.
 pub fn steps_served()
     ensures instruction { (durable : Bool) (leases : List Lease) (k : KeptParts) (g : Group)
         (pid : ℕ) (p : Proc) → StandsFor leases k g → GroupIsValid g → runner g pid ≡ Some p
@@ -258,6 +262,17 @@ pub fn steps_served()
         (answered_part (part_in h x) (answered (regs_of p) value) p.maps writes)
         → StandsFor leases (record { public = stored_in public p.maps writes; here = here })
         (group_step durable g pid) }
+    ensures clone { (durable : Bool) (leases : List Lease) (k : KeptParts) (g : Group) (pid : ℕ)
+        (p : Proc) → StandsFor leases k g → GroupIsValid g → runner g pid ≡ Some p
+        → is_unleased leases pid ≡ true → (value : ℕ) (h : Group) (x child : Proc)
+        (public : Group) (here : List (ℕ × PrivatePart)) → effect_in g p ≡ calls
+        → reply_to durable g p ≡ answers value h [] → runner h pid ≡ Some x
+        → runner h g.frame.next.pid ≡ Some child → is_unleased leases g.frame.next.pid ≡ true
+        → public ≡ public_part h → ((other : ℕ) → kept_part here other ≡ (if pid == other
+        then Some (record (part_in h x) { regs = answered (regs_of p) value })
+        else if g.frame.next.pid == other then Some (part_in h child)
+        else kept_part k.here other))
+        → StandsFor leases (record { public = public; here = here }) (group_step durable g pid) }
     ensures end { (durable : Bool) (leases : List Lease) (k : KeptParts) (g : Group) (pid : ℕ)
         (p : Proc) → StandsFor leases k g → GroupIsValid g → runner g pid ≡ Some p
         → is_unleased leases pid ≡ true → (status : ℕ) (here : List (ℕ × PrivatePart))

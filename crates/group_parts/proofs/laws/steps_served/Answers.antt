@@ -1,3 +1,4 @@
+use Rattle.group_parts.proofs.Cloned.{clone_served}
 use Rattle.group_parts.proofs.Ended.{end_served}
 use Rattle.group_parts.proofs.Served.{answer_served, instruction_served, refusal_served, wait_served}
 use Rattle.group_parts.proofs.laws.steps_served.Goals as goal
@@ -16,3 +17,6 @@ returns-clause-answer c = answer_served
 
 pub returns-clause-end : goal.returns-clause-end
 returns-clause-end c = end_served
+
+pub returns-clause-clone : goal.returns-clause-clone
+returns-clause-clone c = clone_served
