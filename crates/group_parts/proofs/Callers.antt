@@ -56,7 +56,7 @@ caller_is leases k g pid row part stands free there here =
     found ∙ ap (λ (x : Proc). Some x) (sym (whole g p runs)) ∙ ap (λ (x : Proc). Some (filled (Some (part_in g p)) x)) (sym row_is) ∙ ap (λ (s : PrivatePart). Some (filled (Some s) row)) same
 
 -- whose turn is next runs
-next_runs : (limits : Limits) (r : Progress) (worker pid : ℕ) → TakeAllowed limits r worker pid → list_any (is_runner pid) r.state.group.frame.procs ≡ true
+pub next_runs : (limits : Limits) (r : Progress) (worker pid : ℕ) → TakeAllowed limits r worker pid → list_any (is_runner pid) r.state.group.frame.procs ≡ true
 unfolding ready
 next_runs limits r worker pid allowed =
     next_has Runs r.taken (filter (is_unleased r.leases) (ready r.state)) pid (All-filter (is_unleased r.leases) Runs (ready r.state) (All-map Runs (λ (p : Proc). p.pid) (filter test procs) each)) allowed.next

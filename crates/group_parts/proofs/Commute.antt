@@ -8,7 +8,8 @@ use Rattle.address_maps.specs.declared.maps.Mapping.{Mapping}
 use Rattle.group_defs.specs.Fork.{maps_privately}
 use Rattle.group_defs.specs.Group.{Group}
 use Rattle.group_defs.specs.Valid.{GroupIsValid}
-use Rattle.group_parts.proofs.LeaseLists.{mark_stands, one_worker, still_out}
+use Rattle.group_parts.proofs.LeaseLists.{one_worker, still_out}
+use Rattle.group_parts.proofs.LeasesKept.{mark_stands}
 use Rattle.group_parts.proofs.LocalSteps.{maps_stay}
 use Rattle.group_parts.proofs.MarksParts.{mark_leaves_parts}
 use Rattle.group_parts.proofs.OthersPages.{turn_leaves_page}
@@ -67,7 +68,7 @@ marks_leave_lease limits r [] worker pid done part allowed stand out none lease 
 marks_leave_lease limits r (m ∷ ms) worker pid done part allowed stand out none lease =
     let neither = or_parts (is_turn_by worker m) (list_any (is_turn_by worker) ms) none in
     let one = mark_leaves_lease limits r worker pid done part stand out lease m allowed.0.0 allowed.0.1 neither.0 in
-    let rest = marks_leave_lease limits (after_mark limits.quantum r m) ms worker pid done part allowed.1 (mark_stands limits r stand m allowed.0.1) one.out neither.1 one.lease in
+    let rest = marks_leave_lease limits (after_mark limits.quantum r m) ms worker pid done part allowed.1 (mark_stands limits r stand allowed.0.0 m allowed.0.1) one.out neither.1 one.lease in
     record {
       stays = rest.stays ∙ one.stays;
       lease = rest.lease;

@@ -6,16 +6,15 @@ use Rattle.std.proofs.lemmas.List.Elements.{All-filter, All-head, All-map, All-n
 use Rattle.std.proofs.lemmas.List.Folds.{list_any-append}
 use Rattle.std.specs.List.{list_any}
 use Rattle.std.specs.Prelude.{All, filter, find, if◌then◌else◌, nat_lt, is_none, slice_get}
-use Rattle.group_defs.specs.Group.{Group, is_running, runner}
+use Rattle.group_defs.specs.Group.{is_running, runner}
 use Rattle.group_defs.specs.Standing.{State, acknowledged, is_durable}
 use Rattle.group_defs.specs.Step.{do_step, group_step, is_waiting, step_to}
 use Rattle.group_defs.specs.declared.frame.Proc.{Proc}
 use Rattle.group_laws.proofs.Inside.{found_has}
 use Rattle.group_laws.proofs.ServedLaws.{waits_unread}
-use Rattle.group_parts.specs.Leases.{LeasedOnce, LeasesStand, MayEnd}
-use Rattle.group_parts.specs.Marks.{AreAllowed}
+use Rattle.group_parts.specs.Leases.{LeasedOnce, MayEnd}
 use Rattle.run_defs.specs.Legal.{Allowed, is_unleased, next_pid, ready}
-use Rattle.run_defs.specs.Progress.{EachMark, Lease, Progress, after_mark, is_lease, leases_after_turn, progress_after, progress_at}
+use Rattle.run_defs.specs.Progress.{Lease, Progress, after_mark, is_lease, leases_after_turn}
 use Rattle.run_defs.specs.Turns.{does_something, steps_of, turned}
 use Rattle.run_defs.specs.declared.run.Limits.{Limits}
 use Rattle.run_defs.specs.declared.run.Mark.{Mark}
@@ -175,41 +174,28 @@ unfolding is_waiting
 acknowledged_waits s epoch pid = waits_unread (is_durable (acknowledged s epoch).standing pid) (is_durable s.standing pid) s.group pid
 
 -- Each mark keeps what stands of them.
-module _ (limits : Limits) (r : Progress) (stand : LeasesStand r) where
+module _ (limits : Limits) (r : Progress) (once : LeasedOnce r.leases) (may_end : All (MayEnd r) r.leases) where
   by_did : (worker pid n : ℕ) (did : Bool) → does_something r.state pid n ≡ did → All (λ l. (l.moved ≡ true) ⊎ (is_waiting (turned limits.quantum r.state pid n) l.pid ≡ false)) (map (with_did did) (left worker pid r.leases))
   by_did worker pid n true did = All-map (λ (l : Lease). (l.moved ≡ true) ⊎ (is_waiting (turned limits.quantum r.state pid n) l.pid ≡ false)) (with_did true) (left worker pid r.leases) (λ k d lt. inl refl)
   by_did worker pid n false did =
       let same = idle_same limits.quantum r.state pid n did in
       subst (λ s. All (λ (l : Lease). (l.moved ≡ true) ⊎ (is_waiting s l.pid ≡ false)) (map (with_did false) (left worker pid r.leases))) (sym same)
-      (All-map (λ (l : Lease). (l.moved ≡ true) ⊎ (is_waiting r.state l.pid ≡ false)) (with_did false) (left worker pid r.leases) (All-filter (λ l. not (is_lease worker pid l)) (MayEnd r) r.leases stand.may_end))
+      (All-map (λ (l : Lease). (l.moved ≡ true) ⊎ (is_waiting r.state l.pid ≡ false)) (with_did false) (left worker pid r.leases) (All-filter (λ l. not (is_lease worker pid l)) (MayEnd r) r.leases may_end))
 
-  pub mark_stands : (m : Mark) → Allowed limits r m → LeasesStand (after_mark limits.quantum r m)
-  mark_stands (Take worker pid) allowed = record {
-    once = once_taken r.leases (record { worker = worker; pid = pid; moved = false }) stand.once (taken_unleased limits r worker pid allowed);
-    may_end = All-push (MayEnd r) r.leases (record { worker = worker; pid = pid; moved = false }) stand.may_end (inr (taken_acts limits r worker pid allowed));
-  }
-  mark_stands (Turn worker pid n) allowed = record {
-    once = once_did (left worker pid r.leases) (does_something r.state pid n) (once_left r.leases worker pid stand.once);
-    may_end = by_did worker pid n (does_something r.state pid n) refl;
-  }
-  mark_stands (Barrier epoch) allowed = record {
-    once = stand.once;
-    may_end = subst (All (MayEnd (after_mark limits.quantum r (Barrier epoch)))) (sym allowed.rests.no_lease) (All-nil (MayEnd (after_mark limits.quantum r (Barrier epoch))));
-  }
-  mark_stands (Fetch epoch) allowed = record { once = stand.once; may_end = stand.may_end }
-  mark_stands (Ack epoch) allowed = record {
-    once = stand.once;
-    may_end = All-weaker (MayEnd r) (MayEnd (after_mark limits.quantum r (Ack epoch))) (λ l may. by_case l may) r.leases stand.may_end;
-  }
+  pub mark_once : (m : Mark) → Allowed limits r m → LeasedOnce (after_mark limits.quantum r m).leases
+  mark_once (Take worker pid) allowed = once_taken r.leases (record { worker = worker; pid = pid; moved = false }) once (taken_unleased limits r worker pid allowed)
+  mark_once (Turn worker pid n) allowed = once_did (left worker pid r.leases) (does_something r.state pid n) (once_left r.leases worker pid once)
+  mark_once (Barrier epoch) allowed = once
+  mark_once (Fetch epoch) allowed = once
+  mark_once (Ack epoch) allowed = once
+
+  pub mark_may_end : (m : Mark) → Allowed limits r m → All (MayEnd (after_mark limits.quantum r m)) (after_mark limits.quantum r m).leases
+  mark_may_end (Take worker pid) allowed = All-push (MayEnd r) r.leases (record { worker = worker; pid = pid; moved = false }) may_end (inr (taken_acts limits r worker pid allowed))
+  mark_may_end (Turn worker pid n) allowed = by_did worker pid n (does_something r.state pid n) refl
+  mark_may_end (Barrier epoch) allowed = subst (All (MayEnd (after_mark limits.quantum r (Barrier epoch)))) (sym allowed.rests.no_lease) (All-nil (MayEnd (after_mark limits.quantum r (Barrier epoch))))
+  mark_may_end (Fetch epoch) allowed = may_end
+  mark_may_end (Ack epoch) allowed = All-weaker (MayEnd r) (MayEnd (after_mark limits.quantum r (Ack epoch))) (λ l may. by_case l may) r.leases may_end
     where
       by_case : (l : Lease) → MayEnd r l → MayEnd (after_mark limits.quantum r (Ack epoch)) l
       by_case l (inl moved) = inl moved
       by_case l (inr acts) = inr (acknowledged_waits r.state epoch l.pid ∙ acts)
-
-pub start_stands : (origin : ℕ) (g : Group) → LeasesStand (progress_at origin g)
-start_stands origin g = record { once = tt; may_end = All-nil (MayEnd (progress_at origin g)) }
-
-pub marks_stand : (limits : Limits) (r : Progress) (marks : List Mark) → AreAllowed limits r marks → LeasesStand r → LeasesStand (progress_after limits.quantum r marks)
-unfolding EachMark
-marks_stand limits r [] allowed stand = stand
-marks_stand limits r (m ∷ ms) allowed stand = marks_stand limits (after_mark limits.quantum r m) ms allowed.1 (mark_stands limits r stand m allowed.0.1)

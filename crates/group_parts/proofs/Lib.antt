@@ -23,3 +23,4 @@ pub mod Ended
 pub mod OwnPages
 pub mod Callers
 pub mod Cloned
+pub mod LeasesKept

@@ -32,7 +32,7 @@ others_left (l ∷ ls) worker pid q differ = by_lease (l.worker == worker) (l.pi
     by_lease false b e ih = ap (λ (b : Bool). (l.pid == q) || b) ih
 
 -- its own
-its_left : (leases : List Lease) (worker pid : ℕ) → LeasedOnce leases → list_any (is_lease worker pid) leases ≡ true → is_unleased (left worker pid leases) pid ≡ true
+pub its_left : (leases : List Lease) (worker pid : ℕ) → LeasedOnce leases → list_any (is_lease worker pid) leases ≡ true → is_unleased (left worker pid leases) pid ≡ true
 its_left [] worker pid once e = refl
 its_left (l ∷ ls) worker pid once e = by_test (l.worker == worker) (l.pid == pid) refl e (its_left ls worker pid once.1)
   where

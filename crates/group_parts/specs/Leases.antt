@@ -1,5 +1,5 @@
 -- Leases: what a lease's part is in the group, and what stands of the leases that are out.
-use Rattle.std.specs.Prelude.{◌≡◌, ◌⊎◌, ℕ, true, false, IsTrue, Some, List, [], ◌∷◌, All, ⊤}
+use Rattle.std.specs.Prelude.{◌≡◌, ◌⊎◌, ℕ, true, false, IsTrue, Some, List, [], ◌∷◌, All, is_some, ⊤}
 use Rattle.std.specs.List.{list_any}
 use Rattle.group_defs.specs.Fork.{maps_privately}
 use Rattle.group_defs.specs.Group.{Group}
@@ -26,10 +26,11 @@ LeasedOnce (l ∷ ls) = (is_unleased ls l.pid ≡ true) × LeasedOnce ls
 abbrev pub MayEnd : Progress → Lease → Type 0
 MayEnd r l = (l.moved ≡ true) ⊎ (is_waiting r.state l.pid ≡ false)
 
--- what stands of the leases that are out
+-- what stands of the leases that are out; each is of a running process
 pub record LeasesStand (r : Progress) : Type 0 where
   pub once : LeasedOnce r.leases
   pub may_end : All (MayEnd r) r.leases
+  pub run : All (λ l. IsTrue (is_some (part_of r.state.group l.pid))) r.leases
 
 -- From r to r' this lease is still out, its process's private part in the group stayed, and so its own part is still one of it; no
 -- page of an object that it maps privately was touched, and no barrier was made.

@@ -107,13 +107,19 @@ pub fn leases_commute()
         → LeavesLease r (progress_after limits.quantum r marks) worker pid done part }
 {}
 
-/// What stands of the leases that are out: no process has two, and one that hasn't moved is of a process that doesn't wait.
-/// So it is at the start, and after each mark that is allowed.
+/// What stands of the leases that are out: each is of a running process, no process has two, and one that hasn't moved is of a
+/// process that doesn't wait. So it is at the start, and after each mark that is allowed. Nobody has a lease of the next pid,
+/// and giving a lease back lets no other be out.
 pub fn leases_stand()
     ensures start { (origin : ℕ) (g : Group) → LeasesStand (progress_at origin g) }
     ensures marks { (limits : Limits) (r : Progress) (marks : List Mark)
         → AreAllowed limits r marks → LeasesStand r
         → LeasesStand (progress_after limits.quantum r marks) }
+    ensures next { (r : Progress) → LeasesStand r → GroupIsValid r.state.group
+        → is_unleased r.leases r.state.group.frame.next.pid ≡ true }
+    ensures back { (leases : List Lease) (worker pid : ℕ) (did : Bool) (other : ℕ)
+        → is_unleased leases other ≡ true
+        → is_unleased (leases_after_turn worker pid did leases) other ≡ true }
 {}
 
 /// All parts of a group stand for it.
