@@ -1,0 +1,4 @@
+mod refusals;
+mod runs;
+mod samples;
+mod stores;
