@@ -4,7 +4,7 @@ use Rattle.ckpt_records.specs.Pages.{ArePagesOf, written_page}
 use Rattle.ckpt_records.specs.declared.meta.Page.{Page}
 use Rattle.group_defs.specs.Group.{Group}
 use Rattle.group_defs.specs.declared.frame.Frame.{Frame}
-use Rattle.group_kernel.specs.Engine.{group_in}
+use Rattle.flat_kernel.specs.Engine.{group_in}
 use Rattle.page_flusher.specs.Plans.{IsPlanRefused}
 use Rattle.page_flusher.specs.declared.kept.KeptBlocks.{KeptBlocks}
 use Rattle.page_flusher.specs.declared.plan.PlanRefused.{PlanRefused}

@@ -2,7 +2,7 @@ use Rattle.std.proofs.Common.{◌+◌, ◌∙◌, ◌∷◌, [], ◌++◌, List,
 use Rattle.run_defs.specs.declared.run.Mark.TheVariants.{Barrier, Fetch}
 use Rattle.run_defs.specs.declared.run.Mark.{Mark}
 use Rattle.group_defs.specs.Group.{Group}
-use Rattle.group_kernel.specs.Engine.{group_in}
+use Rattle.flat_kernel.specs.Engine.{group_in}
 use Rattle.solo_engine.specs.Interval.{StopsTurning}
 use Rattle.solo_engine.proofs.Exits.{on_err}
 use Rattle.solo_engine.proofs.Turning.{come_so_far}

@@ -3,7 +3,7 @@ use Rattle.group_defs.specs.Output.{last_position}
 use Rattle.group_defs.specs.declared.frame.Out.{Out}
 use Rattle.run_defs.specs.declared.run.Mark.{Mark}
 use Rattle.run_defs.specs.declared.run.Mark.TheVariants.{Turn}
-use Rattle.group_kernel.specs.Engine.{group_in}
+use Rattle.flat_kernel.specs.Engine.{group_in}
 use Rattle.solo_engine.specs.Interval.{StopsTurning}
 use Rattle.solo_engine.proofs.Exits.{on_err}
 use Rattle.solo_engine.proofs.Turning.{comes_over, stops_behind_take, stops_here, turns_more}

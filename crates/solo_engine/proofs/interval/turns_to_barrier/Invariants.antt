@@ -1,5 +1,5 @@
 use Rattle.std.proofs.Common.{◌≡◌}
-use Rattle.group_kernel.specs.Engine.{group_in, IsRunnable}
+use Rattle.flat_kernel.specs.Engine.{group_in, IsRunnable}
 use Rattle.solo_engine.specs.Interval.{HasTurned}
 use Rattle.solo_engine.proofs.interval.turns_to_barrier.Given as goal
 

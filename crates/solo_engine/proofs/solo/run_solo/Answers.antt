@@ -3,7 +3,7 @@ use Rattle.run_defs.specs.declared.run.AckMark.{AckMark}
 use Rattle.run_defs.specs.declared.run.Mark.{Mark}
 use Rattle.ckpt_records.specs.Parts.{group_of}
 use Rattle.sls_core.specs.Answers.{IsSoloRun}
-use Rattle.group_kernel.specs.Engine.{group_in}
+use Rattle.flat_kernel.specs.Engine.{group_in}
 use Rattle.sls_core.specs.Safe.{run_of}
 use Rattle.sls_core.specs.declared.run.Run.{Run}
 use Rattle.sls_core.specs.declared.run.RunAnswer.TheVariants.{NoMemory}

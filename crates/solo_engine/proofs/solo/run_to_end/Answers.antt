@@ -4,7 +4,7 @@ use Rattle.run_defs.specs.declared.run.Mark.{Mark}
 use Rattle.sls_core.specs.Answers.{IsSoloRun}
 use Rattle.sls_core.specs.Safe.{run_of}
 use Rattle.sls_core.specs.declared.run.RunAnswer.TheVariants.{DiskFault, NoMemory, SinkFault}
-use Rattle.group_kernel.specs.Engine.{group_in}
+use Rattle.flat_kernel.specs.Engine.{group_in}
 use Rattle.page_flusher.specs.declared.kept.KeptBlocks.{KeptBlocks}
 use Rattle.solo_engine.specs.Interval.{IsCommitted, IsFetched, IsPlanned, IsStart, ReleasesPart, ReleasesRest, StopsTurning}
 use Rattle.solo_engine.proofs.Beginning.{at_none, begins, rests_first, unreleased_first}

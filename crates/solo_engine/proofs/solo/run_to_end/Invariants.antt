@@ -1,5 +1,5 @@
 use Rattle.std.proofs.Common.{◌-◌}
-use Rattle.group_kernel.specs.Engine.{group_in}
+use Rattle.flat_kernel.specs.Engine.{group_in}
 use Rattle.solo_engine.proofs.Intervals.{IsRunAtRest, here}
 use Rattle.solo_engine.proofs.solo.run_to_end.Given as goal
 
