@@ -7,3 +7,4 @@ pub mod Views
 pub mod Across
 pub mod Steps
 pub mod Spelled
+pub mod GroupObjects

@@ -17,11 +17,11 @@ use Rattle.proc_lease.specs.Private.{ObjectView, memory_of, byte_into, byte_into
 
 -- ---- sets
 
-length-with_range : (set : List Bool) (place n : ℕ) → length (with_range set place n) ≡ length set
+pub length-with_range : (set : List Bool) (place n : ℕ) → length (with_range set place n) ≡ length set
 unfolding with_range
 length-with_range set place n = length-map-range_with_len (λ p. slice_index_or set p false || covers place n p) 0 (length set)
 
-in_range : (set : List Bool) (place n k : ℕ) → k < length set → slice_index_or (with_range set place n) k false ≡ (slice_index_or set k false || covers place n k)
+pub in_range : (set : List Bool) (place n k : ℕ) → k < length set → slice_index_or (with_range set place n) k false ≡ (slice_index_or set k false || covers place n k)
 unfolding with_range
 in_range set place n k lt = get_or-map-range_with_len (λ p. slice_index_or set p false || covers place n p) 0 (length set) k k false lt (omega arith)
 
@@ -33,11 +33,11 @@ covers_more : (place n k : ℕ) → (covers place 1 k || covers (suc place) n k)
 unfolding covers
 covers_more place n k = grind (arith, nat_tests)
 
-or_false : (x : Bool) → (x || false) ≡ x
+pub or_false : (x : Bool) → (x || false) ≡ x
 or_false true = refl
 or_false false = refl
 
-or_assoc : (x y z : Bool) → ((x || y) || z) ≡ (x || (y || z))
+pub or_assoc : (x y z : Bool) → ((x || y) || z) ≡ (x || (y || z))
 or_assoc true y z = refl
 or_assoc false y z = refl
 

@@ -13,7 +13,7 @@ use Rattle.proc_lease.specs.Private.{ObjectView, memory_of, byte_into, byte_into
 
 -- ---- the flat table
 
-itself : (n : ℕ) → (n == n) ≡ true
+pub itself : (n : ℕ) → (n == n) ≡ true
 itself n = search rules
 
 memory_byte : (objects : List ObjectView) (object place b : ℕ) → memory_of (byte_into objects object place b) ≡ with_byte (memory_of objects) object place b

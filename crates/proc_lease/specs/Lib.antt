@@ -1,2 +1,3 @@
 pub mod Private
 pub mod Running
+pub mod GroupObjects

@@ -6,6 +6,7 @@
 //! Below stand `rv64_core`, `address_maps` and `shadow_chains`; the kernel that hands leases out stands above.
 #![tactic(auto)]
 
+pub mod laws;
 mod lease;
 mod objects;
 mod places;
