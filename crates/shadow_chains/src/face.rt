@@ -142,6 +142,7 @@ impl Face {
         ensures same { self.new ≡ record self.old { ready = self.new.ready } }
         ensures ok { OnOk result (HasRange self.new.ready place n) }
         ensures ready { IsSubset self.old.ready self.new.ready }
+        ensures succeeds { HasRange self.old.ready place n → IsOk result }
     {
         hold_range(self.alloc, &mut self.top, place, n)
     }
