@@ -1,0 +1,4 @@
+pub mod StoredSets
+pub mod StoresAble
+pub mod LeaseRuns
+pub mod LeaseMarks

@@ -1,0 +1,3 @@
+pub mod View
+pub mod Faces
+pub mod Leases
