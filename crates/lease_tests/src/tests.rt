@@ -1,3 +1,4 @@
+mod accesses;
 mod refusals;
 mod runs;
 mod samples;

@@ -8,3 +8,9 @@ pub mod Across
 pub mod Steps
 pub mod Spelled
 pub mod GroupObjects
+pub mod ObjectLists
+pub mod Rights
+pub mod Spots
+pub mod SeenStores
+pub mod Pieces
+pub mod Ready

@@ -1,3 +1,4 @@
 pub mod Private
 pub mod Running
 pub mod GroupObjects
+pub mod Sight

@@ -49,6 +49,28 @@ pub fn number_at(faces: &FaceTable, object: u64, place: u64, n: u8) -> u64
     }
 }
 
+fn read_in(face: &Face, place: u64, into: &mut [u8])
+    requires { place + length into.old ≤ length face.now.bytes }
+    ensures { into.new ≡ take (length into.old) (drop place face.now.bytes) }
+{
+    let _pages = face.pages();
+    face.read(place, into)
+}
+
+/// Reads the bytes at a place of an object.
+pub fn read_from(faces: &FaceTable, object: u64, place: u64, into: &mut [u8])
+    requires some { 1 ≤ length into.old }
+    requires inside { place + length into.old
+        ≤ length (bytes_in (memory_of (views_of faces.now.entries)) object) }
+    ensures { into.new ≡ take (length into.old)
+        (drop place (bytes_in (memory_of (views_of faces.now.entries)) object)) }
+{
+    match faces.face(object) {
+        Some(face) => read_in(face, place, into),
+        None => unreachable!(),
+    }
+}
+
 fn write_in(face: &mut Face, place: u64, bytes: &[u8]) -> Result<(), NoMemory>
     requires { place + length bytes.now ≤ length face.old.bytes }
     ensures ok { OnOk result ((number : ℕ) → view_of (entry_with number face.new)
@@ -91,6 +113,7 @@ fn reserve_in(face: &mut Face, place: u64, n: u64) -> Result<(), NoMemory>
         ≡ view_of (entry_with number face.old) }
     ensures ready { IsSubset face.old.ready face.new.ready }
     ensures ok { OnOk result (HasRange face.new.ready place n) }
+    ensures succeeds { HasRange face.old.ready place n → IsOk result }
 {
     let _pages = face.pages();
     face.reserve(place, n)
@@ -104,6 +127,7 @@ pub fn reserve_at(faces: &mut FaceTable, object: u64, place: u64, n: u64) -> Res
     ensures same { views_of faces.new.entries ≡ views_of faces.old.entries }
     ensures ready { StaysReady faces.old.entries faces.new.entries }
     ensures ok { OnOk result (IsReadyFor faces.new.entries object place n) }
+    ensures succeeds { IsReadyFor faces.old.entries object place n → IsOk result }
 {
     match faces.face_mut(object) {
         Some(face) => reserve_in(face, place, n),

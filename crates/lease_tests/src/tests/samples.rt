@@ -1,9 +1,10 @@
-ghost use Rattle.std.specs.Prelude.{◌≡◌, IfOk};
+ghost use Rattle.std.specs.Prelude.{◌≡◌, ◌∷◌, [], IfOk};
+ghost use Rattle.shadow_chains.specs.Entries.{entry_with};
 ghost use Rattle.lease_tests.specs.Samples.{both_faces, both_maps, two_pages_of};
 
 use address_maps::{Map, Mapping};
 use lists::NoMemory;
-use proc_lease::{Lease, Process};
+use proc_lease::{CallerMemory, Lease, Process};
 use rv64_core::Regs;
 use shadow_chains::{Face, FaceTable, Frozen};
 use std::alloc::Global;
@@ -90,6 +91,40 @@ pub fn lease_of(alloc: Global, low: Face, high: Face, rights: Rights) -> Result<
         done: 0,
         process,
     })
+}
+
+fn one_face(alloc: Global, number: u64, face: Face) -> Result<FaceTable, NoMemory>
+    ensures { IfOk result (λ faces. faces.entries ≡ entry_with number face ∷ []) }
+{
+    let mut faces = FaceTable::new(alloc);
+    faces.insert(number, face)?;
+    Ok(faces)
+}
+
+/// The memory of a process with these registers, whose program is private and whose data is shared.
+pub fn caller_of(
+    alloc: Global,
+    regs: Regs,
+    program: Face,
+    of_shared: Face,
+    of_program: u8,
+    of_data: u8,
+) -> Result<CallerMemory, NoMemory>
+    requires program { program.pages ≡ 2 }
+    requires of_shared { of_shared.pages ≡ 2 }
+{
+    let _program_pages = program.pages();
+    let _shared_pages = of_shared.pages();
+    let rights = Rights {
+        of_program,
+        of_data,
+        shared: true,
+    };
+    let map = map_of(alloc, rights)?;
+    let faces = one_face(alloc, PROGRAM, program)?;
+    let shared = one_face(alloc, DATA, of_shared)?;
+    let process = Process { regs, map, faces };
+    Ok(CallerMemory { process, shared })
 }
 
 fn bytes_of(alloc: Global, words: &[u32]) -> Result<Vec<u8>, NoMemory> {
