@@ -1,0 +1,3 @@
+pub mod DescriptionsFound
+pub mod WritesCarriedOut
+pub mod WaitingCalls

@@ -1,0 +1,3 @@
+-- What the public clauses say.
+pub mod Outside
+pub mod IoCalls
