@@ -1,8 +1,8 @@
 -- A lease's faces stand over the last barrier while others' marks are logged.
-use Rattle.std.proofs.Common.{◌≡◌, ℕ, zero, suc, ◌+◌, ◌++◌, ◌<◌, ◌==◌, ◌||◌, Bool, true, false, List, [], ◌∷◌, map, Option, Some, None, refl, sym, ap, ◌∙◌, subst, cond}
+use Rattle.std.proofs.Common.{◌≡◌, ℕ, zero, suc, ◌+◌, ◌++◌, ◌<◌, ◌==◌, ◌||◌, Bool, true, false, List, [], ◌∷◌, length, map, Option, Some, None, refl, sym, ap, ◌∙◌, subst, cond}
 use Rattle.std.proofs.lemmas.Bool.{eqb-true, false≢true, or_parts}
 use Rattle.std.proofs.lemmas.List.Elements.{All-from_recursion, recursion_from_All}
-use Rattle.std.specs.Prelude.{if◌then◌else◌, IsTrue, slice_set}
+use Rattle.std.specs.Prelude.{All, if◌then◌else◌, IsTrue, slice_set}
 use Rattle.std.specs.List.{AllByRecursion, filter, list_any}
 use Rattle.rv64_isa.specs.Instruction.{Effect, steps, calls, traps}
 use Rattle.rv64_isa.specs.Memory.{Write}
@@ -11,7 +11,7 @@ use Rattle.address_maps.specs.Mappings.{mapping_at}
 use Rattle.address_maps.specs.declared.maps.Mapping.{Mapping}
 use Rattle.tables.specs.Lists.{on_first}
 use Rattle.tables.specs.Rising.{Rise}
-use Rattle.tables.proofs.Ordered.{IsOrdered, each_both, each_map, each_of_map, ordered_map, ordered_of_map, ordered_of_pairs, pairs_of_ordered}
+use Rattle.tables.proofs.Ordered.{IsOrdered, each_both, each_map, each_of_map, each_weaker, ordered_map, ordered_of_map, ordered_of_pairs, pairs_of_ordered}
 use Rattle.shadow_chains.specs.declared.entry.Entry.{Entry}
 use Rattle.shadow_chains.specs.Entries.{number_of}
 use Rattle.group_defs.specs.Cells.{object_place, with_byte, with_byte_at, with_stored, with_writes}
@@ -19,9 +19,9 @@ use Rattle.group_defs.specs.Fork.{maps_privately}
 use Rattle.group_defs.specs.Group.{Group}
 use Rattle.group_defs.specs.Pages.{is_among}
 use Rattle.group_parts.specs.Leases.{IsLeaseOf, LeasesStand, LeavesLease}
-use Rattle.group_parts.specs.Local.{part_after, part_effect, step_of_part, steps_of_part}
+use Rattle.group_parts.specs.Local.{pages_of_steps, part_after, part_effect, step_of_part, steps_of_part}
 use Rattle.group_parts.specs.Marks.{AreAllowed, is_turn_by}
-use Rattle.group_parts.specs.Parts.{PrivatePart, part_in}
+use Rattle.group_parts.specs.Parts.{PrivatePart, part_in, part_of}
 use Rattle.group_parts.proofs.Commute.{mark_leaves_lease, marks_leave_lease}
 use Rattle.group_parts.proofs.LeasesKept.{mark_stands}
 use Rattle.group_parts.proofs.LocalSteps.{maps_stay}

@@ -1,19 +1,20 @@
 -- What local steps leave of a process's objects is what they make of its private part, and the pages that they store to enter the sets.
-use Rattle.std.proofs.Common.{◌≡◌, ℕ, zero, suc, ◌++◌, ◌<◌, List, [], ◌∷◌, map, Some, None, refl, sym, ap, ◌∙◌, subst, append_assoc, append-nil}
+use Rattle.std.proofs.Common.{◌≡◌, ℕ, zero, suc, ◌++◌, ◌<◌, Bool, true, false, List, [], ◌∷◌, length, map, Option, Some, None, refl, sym, ap, ◌∙◌, subst, append_assoc, append-nil}
 use Rattle.std.specs.Prelude.{IsTrue}
 use Rattle.std.specs.List.{AllByRecursion}
-use Rattle.rv64_isa.specs.Instruction.{Effect, steps, calls, traps, instruction, is_step}
-use Rattle.rv64_isa.specs.Memory.{Cells}
+use Rattle.rv64_isa.specs.Instruction.{Effect, steps, calls, traps, instruction, is_step, list_of}
+use Rattle.rv64_isa.specs.Memory.{Cells, Write, private_cells, stored_all}
 use Rattle.rv64_isa.specs.declared.regs.Regs.{Regs}
 use Rattle.address_maps.specs.declared.maps.Mapping.{Mapping}
 use Rattle.tables.proofs.Ordered.{IsOrdered}
 use Rattle.rv64_core.specs.Step.{IsAfterStep, after_landing}
 use Rattle.rv64_core.specs.Steps.{AreAfterSteps}
-use Rattle.group_defs.specs.Cells.{with_stored, with_writes}
+use Rattle.group_defs.specs.Cells.{cells_of, with_stored, with_writes}
 use Rattle.group_defs.specs.Pages.{pages_at, pages_of_writes}
-use Rattle.group_parts.specs.Local.{AllLocalPart, is_local_part, pages_of_step, pages_of_steps, part_after, step_of_part, steps_of_part, writes_of_effect}
+use Rattle.group_parts.specs.Local.{AllLocalPart, is_local_part, pages_of_step, pages_of_steps, part_after, part_effect, step_of_part, steps_of_part, writes_of_effect}
 use Rattle.group_parts.specs.Parts.{PrivatePart}
 use Rattle.proc_lease.specs.Private.{ObjectView, PrivateFits, memory_of, private_in, stored_into}
+use Rattle.proc_lease.specs.Running.{AreAfterLocalSteps}
 use Rattle.proc_lease.proofs.GroupObjects.{bases_kept, stores_alike}
 use Rattle.proc_lease.proofs.StoredCells.{stored_seen}
 use Rattle.proc_lease.proofs.Stores.{stored_fits}

@@ -1,14 +1,16 @@
 -- What is stored enters the sets: objects that stand over the last barrier stand over it with the pages stored to.
-use Rattle.std.proofs.Common.{◌≡◌, ℕ, ◌+◌, ◌/◌, ◌<◌, ◌==◌, ◌&&◌, ◌||◌, Bool, true, false, List, [], ◌∷◌, ◌++◌, map, Option, Some, None, refl, sym, ap, ◌∙◌, arith, subst, append_assoc, append-nil}
+use Rattle.std.proofs.Common.{◌≡◌, ◌≢◌, ℕ, zero, suc, ◌+◌, ◌*◌, ◌/◌, ◌<◌, ◌==◌, ◌&&◌, ◌||◌, Bool, true, false, List, [], ◌∷◌, ◌++◌, length, map, Option, Some, None, refl, sym, ap, ◌∙◌, arith, subst, append_assoc, append-nil}
+use Rattle.std.proofs.lemmas.Bool.{eqb-true, false≢true}
 use Rattle.std.proofs.lemmas.Bool.Decides.{nat_tests}
 use Rattle.std.proofs.lemmas.List.Folds.{list_any-append}
 use Rattle.std.specs.Prelude.{if◌then◌else◌, slice_index_or, slice_set}
-use Rattle.std.specs.List.{AllByRecursion}
+use Rattle.std.specs.List.{AllByRecursion, flat_map}
+use Rattle.rv64_isa.specs.Memory.{Write}
 use Rattle.rv64_isa.specs.Numbers.{wrapped}
 use Rattle.address_maps.specs.declared.maps.Mapping.{Mapping}
 use Rattle.address_maps.specs.Mappings.{mapping_at}
 use Rattle.tables.specs.Lists.{on_first}
-use Rattle.tables.proofs.Ordered.{IsOrdered, each_both, each_of_map}
+use Rattle.tables.proofs.Ordered.{IsOrdered, each_weaker, each_both, each_of_map}
 use Rattle.shadow_chains.specs.Chain.{covers, with_range}
 use Rattle.group_defs.specs.Cells.{object_place}
 use Rattle.group_defs.specs.Pages.{is_among, page_at, pages_at}

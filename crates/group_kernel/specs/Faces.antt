@@ -1,5 +1,5 @@
 -- Faces over the last barrier: what lies below an object's layers, and which pages stand in them.
-use Rattle.std.specs.Prelude.{◌≡◌, ℕ, ◌*◌, ◌<◌, ◌==◌, false, if◌then◌else◌, List, [], All, Option, Some, None, length, slice_index_or}
+use Rattle.std.specs.Prelude.{◌≡◌, ℕ, ◌*◌, ◌-◌, ◌<◌, ◌==◌, Bool, false, if◌then◌else◌, List, [], All, Option, Some, None, length, slice_index_or}
 use Rattle.group_defs.specs.Cells.{bytes_in}
 use Rattle.group_defs.specs.Pages.{is_among}
 use Rattle.proc_lease.specs.Private.{ObjectView}

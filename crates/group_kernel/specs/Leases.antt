@@ -1,5 +1,5 @@
 -- Leases that a kernel handed out.
-use Rattle.std.specs.Prelude.{◌≡◌, ◌⊎◌, ℕ, ◌<◌, ◌++◌, false, IsTrue}
+use Rattle.std.specs.Prelude.{◌≡◌, ◌⊎◌, ℕ, ◌<◌, ◌++◌, false, IsTrue, List}
 use Rattle.std.specs.List.{list_any}
 use Rattle.group_parts.specs.Leases.{IsLeaseOf}
 use Rattle.group_parts.specs.Local.{is_local_part, pages_of_steps}
@@ -28,3 +28,14 @@ pub record IsLeased (v : KernelView) (worker : ℕ) (lease : Lease) : Type 0 whe
 -- It may be given back: at the quantum, or before a step that isn't local.
 abbrev pub MayGive : ℕ → Lease → Type 0
 MayGive quantum lease = (lease.done ≡ quantum) ⊎ ((lease.done < quantum) × (is_local_part (part_held lease.process) ≡ false))
+
+-- The same process, and the same lease of it, of which faces may have more room than before.
+pub record IsSameProcess (old new : Process) : Type 0 where
+  pub regs : new.regs ≡ old.regs
+  pub maps : new.map.entries ≡ old.map.entries
+  pub faces : views_of new.faces.entries ≡ views_of old.faces.entries
+
+pub record IsSameLease (old new : Lease) : Type 0 where
+  pub pid : new.pid ≡ old.pid
+  pub steps : new.done ≡ old.done
+  pub process : IsSameProcess old.process new.process

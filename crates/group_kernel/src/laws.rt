@@ -1,6 +1,6 @@
 //! What holds of leases that are out, whatever the kernel.
 
-ghost use Rattle.std.specs.Prelude.{◌≡◌, ◌-◌, ◌≤◌, ◌↔◌, ℕ, List, IsTrue, false};
+ghost use Rattle.std.specs.Prelude.{◌≡◌, ◌-◌, ◌≤◌, ◌↔◌, ℕ, Bool, List, IsTrue, false};
 ghost use Rattle.std.specs.List.{list_any};
 ghost use Rattle.group_defs.specs.Numbers.{HasUnwornNumbers};
 ghost use Rattle.group_defs.specs.Valid.{GroupIsValid};
@@ -27,11 +27,15 @@ pub fn leases_stay()
         old.process.regs (views_of old.process.faces.entries)
         new.process.regs (views_of new.process.faces.entries)
         → IsLeased v worker new }
-    ensures others { (v : KernelView) (marks : List Mark) (worker : ℕ) (lease : Lease)
+    ensures others { (v : KernelView) (marks : List Mark) (stopped prepared : Bool) (worker : ℕ)
+        (lease : Lease)
         → GroupIsValid v.start → HasUnwornNumbers v.start.frame → LimitsFit v.limits
         → Legal v.start v.origin_epoch v.limits (after_marks v marks).marks
         → list_any (is_turn_by worker) marks ≡ false
-        → IsLeased v worker lease → IsLeased (after_marks v marks) worker lease }
+        → IsLeased v worker lease → IsLeased (record (after_marks v marks) {
+          stopped = stopped;
+          prepared = prepared;
+        }) worker lease }
     ensures quantum { (quantum : ℕ) (lease : Lease) → Stops Quantum lease.done quantum
         (instruction (private_in (views_of lease.process.faces.entries)
         lease.process.map.entries) lease.process.regs) → MayGive quantum lease }

@@ -1,4 +1,4 @@
-use Rattle.std.proofs.Common.{◌≡◌, ℕ, ◌+◌, ◌-◌, ◌++◌, ◌∙◌, List, [], false, inr, refl, sym, ap, subst, arith, append_assoc}
+use Rattle.std.proofs.Common.{◌≡◌, ℕ, ◌+◌, ◌-◌, ◌++◌, ◌∙◌, List, [], false, inl, inr, refl, sym, ap, subst, arith, append_assoc}
 use Rattle.std.proofs.lemmas.List.Elements.{All-from_recursion, recursion_from_All}
 use Rattle.std.specs.Prelude.{All}
 use Rattle.std.specs.List.{AllByRecursion, list_any}
@@ -19,7 +19,7 @@ use Rattle.run_defs.specs.Progress.{Progress, is_lease, progress_after, progress
 use Rattle.run_laws.proofs.MachineLaws.{each_split, progress_more}
 use Rattle.run_laws.proofs.RunLaws.{each_in_valid}
 use Rattle.group_kernel.specs.Faces.{StandsOver, base_memory}
-use Rattle.group_kernel.specs.Leases.{part_held}
+use Rattle.group_kernel.specs.Leases.{IsLeased, part_held}
 use Rattle.group_kernel.specs.View.{after_marks, progress_of}
 use Rattle.group_kernel.proofs.LeaseMarks.{faces_stay, rise_by_views, rise_of_views}
 use Rattle.group_kernel.proofs.LeaseRuns.{part_with, steps_moved}
@@ -64,7 +64,7 @@ returns-clause-run c v worker old new leased pid more maps after =
     }
 
 pub returns-clause-others : goal.returns-clause-others
-returns-clause-others c v marks worker lease valid unworn small legal none leased =
+returns-clause-others c v marks stopped prepared worker lease valid unworn small legal none leased =
     let p : Progress = progress_at v.origin_epoch v.start in
     let r : Progress = progress_of v in
     let allowed = each_in_valid v.limits v.origin_epoch small v.start v.marks marks valid unworn legal in
